@@ -1,1 +1,10 @@
 pub mod Examples
+pub mod Lists
+pub mod Order
+pub mod Places
+pub mod Clamp
+pub mod Openings
+pub mod Histories
+pub mod Invariant
+pub mod Noting
+pub mod Stepping
