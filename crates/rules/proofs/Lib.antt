@@ -8,3 +8,6 @@ pub mod Histories
 pub mod Invariant
 pub mod Noting
 pub mod Stepping
+pub mod Moving
+pub mod Gathering
+pub mod Iterating

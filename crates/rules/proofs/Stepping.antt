@@ -22,6 +22,7 @@ use Rattle.rules.specs.declared.Setup.{Setup}
 use Rattle.rules.specs.declared.Search.{Search}
 use Rattle.rules.specs.declared.Phase.{Phase}
 use Rattle.rules.specs.declared.Phase.the-variants.{Building, Reflecting, Expanding, Contracting, Shrinking, Probing, Ended}
+use Rattle.rules.specs.declared.Cause.the-variants.{Settled, Budget}
 use Rattle.rules.proofs.Places.{Whole, unpack-take}
 use Rattle.rules.proofs.Invariant.{Known, Leads, Noted, Stands, Gathers, Equation, Idle, At, Inv}
 use Rattle.rules.proofs.Noting.{_▹_}
@@ -79,7 +80,7 @@ standingCosts s = total (map costOf (standingOf s))
 abbrev pub othersIn : List Piece → ℕ
 othersIn ps = countOf reflection ps + countOf expansion ps + countOf contraction ps
 
--- a phase that does not go on from a probe
+-- a phase that does not go on from a probe: no round is under way, and none has settled the search
 abbrev pub Fresh : Phase → Type 0
 Fresh (Building i) = Unit {0}
 Fresh Reflecting = Unit {0}
@@ -88,7 +89,8 @@ Fresh (Contracting side f) = Unit {0}
 Fresh (Shrinking j) = Unit {0}
 Fresh (Probing zero) = Unit {0}
 Fresh (Probing (suc p)) = ⊥
-Fresh (Ended cause) = ⊥
+Fresh (Ended Settled) = ⊥
+Fresh (Ended Budget) = Unit {0}
 
 -- s takes a reading and becomes u: rs are its readings then, ps the pieces finished, probe tells whether it was a probe
 pub record Stepped (rs : List Vertex) (ps : List Piece) (probe : ℕ) (s u : Search) : Type 0 where

@@ -1,0 +1,175 @@
+-- A reading of an iteration: reflected, expanded or contracted. Assumes nothing.
+use mathlib.Core.Path.{_≡_, refl, sym, ap, _∙_, subst}
+use mathlib.Core.Bool.{Bool, true, false, not, _&&_}
+use mathlib.Core.List.{List, [], _∷_, List·Memᴰ, Memᴰ·cast, Memᴰ·append-left, List·Memᴰ·eq-of-singleton}
+use Prim.Native.Nat.{ℕ, zero, suc, _+_, _-_, _*_, _≤_, _<_}
+use native.Mathlib.Omega.{arith}
+use native.Mathlib.Nat.{not-suc-le-zero}
+use lib.ListN.{length, getD, take, length-map}
+use lib.Dec.{leb, ltb}
+use borrow.Author.Tests.{leb-true, leb-false, ltb-true, ltb-false, lt-ltb, le-ltb}
+use Rattle.rules.specs.Simplex.{point, blank, place, pack, costOf, Ordered}
+use Rattle.rules.specs.Trial.{reflected}
+use Rattle.rules.specs.Accept.{reflection, expansion, contraction, opened, better, bestAfter, noted, pick, taken, waiting, f1, fn, fw, wins, reflectedVertex, reflectedOn, expandedOn, contractedOn, shrinking}
+use Rattle.rules.specs.Calls.{maxCost}
+use Rattle.rules.specs.Tally.{countOf, pieceIf}
+use Rattle.rules.specs.declared.Vertex.{Vertex}
+use Rattle.rules.specs.declared.Search.{Search}
+use Rattle.rules.specs.declared.Side.{Side}
+use Rattle.rules.specs.declared.Side.the-variants.{Outside, Inside}
+use Rattle.rules.specs.declared.Phase.the-variants.{Expanding, Contracting, Shrinking}
+use Rattle.rules.proofs.Lists.{mem-getD}
+use Rattle.rules.proofs.Order.{ordered-at}
+use Rattle.rules.proofs.Places.{place-pack, cost-pack}
+use Rattle.rules.proofs.Invariant.{Known, Leads, Noted, Gathers, Idle, Beside, AtExpand, AtContract, AtShrink, Inv}
+use Rattle.rules.proofs.Noting.{_▹_, known-more, known-new, bestAfter-some}
+use Rattle.rules.proofs.Stepping.{Stepped, by-test, whole}
+use Rattle.rules.proofs.Moving.{takes, goes-on}
+
+-- ---- who is first
+
+pub leads-at : (vs : List Vertex) (b : Vertex) → Leads vs b → getD vs 0 blank ≡ b
+leads-at [] b h = let z : _≡_ {A = ℕ} 0 1 = cc in absurd (omega arith)
+leads-at (v ∷ vs) b h = cc
+
+leads-self : (vs : List Vertex) → 1 ≤ length vs → Leads vs (getD vs 0 blank)
+leads-self [] l = absurd (not-suc-le-zero l)
+leads-self (v ∷ vs) l = refl
+
+-- a reading that is not lower leaves the best
+pub best-stays : (k : ℕ) (v b : Vertex) → 1 ≤ k → b .cost ≤ v .cost → bestAfter k v b ≡ b
+best-stays k v b l h = bestAfter-some k v b l ∙ rw (le-ltb (v .cost) (b .cost) h)
+
+-- a lower one is the best
+pub best-falls : (k : ℕ) (v b : Vertex) → 1 ≤ k → v .cost < b .cost → bestAfter k v b ≡ v
+best-falls k v b l h = bestAfter-some k v b l ∙ rw (lt-ltb (v .cost) (b .cost) h)
+
+module _ (rs : List Vertex) (v : Vertex) (s : Search) (inv : Inv rs s) (after : Noted (rs ▹ v) (s .setup) (s .readings + 1) (bestAfter (s .readings) v (s .best))) where
+  -- the costs that the search carries are those of its vertices
+  carries : (i : ℕ) → getD (s .standing .costs) i 0 ≡ getD (inv .vs) i blank .cost
+  carries i = rw (inv .stands .are) (cost-pack (inv .vs) i)
+
+  -- the gathered vertices stay as they are
+  pub gathers-more : Gathers (rs ▹ v) (inv .gs) (s .gathered)
+  gathers-more = record { are = inv .gathers .are; known = known-more (inv .gs) rs v (inv .gathers .known) }
+
+  -- the best is one of the readings
+  best-known : 1 ≤ s .readings → List·Memᴰ (s .best) (rs ▹ v)
+  best-known l =
+      let b = inv .noted .least l in
+      Memᴰ·append-left (v ∷ []) (Memᴰ·cast (sym (b .2)) (mem-getD rs (b .0) blank (rw (length-map rs costOf) at (b .1 .told))))
+
+  -- in place order costs do not fall
+  in-place : (i : ℕ) → 1 ≤ s .counts .builds → i ≤ s .setup .n → getD (inv .vs) i blank .cost ≤ getD (inv .vs) (s .setup .n) blank .cost
+  in-place i l h = ordered-at (inv .vs) i (s .setup .n) (inv .stands .sorted) h (omega (arith, inv .stands .all l))
+
+  idle-on : Idle 0 (inv .gs) (s .readings) (s .counts) → Idle 1 (inv .gs) (s .readings + 1) (opened 1 (s .counts))
+  idle-on h = record { stood = h .stood; some = omega arith; empty = h .empty; unfinished = omega (arith, h .unfinished) }
+
+  -- ---- the reflected point
+
+  module _ (idle : Idle 0 (inv .gs) (s .readings) (s .counts)) (leads : Leads (inv .vs) (s .best)) where
+    first-cost : f1 s ≡ s .best .cost
+    first-cost = carries 0 ∙ ap costOf (leads-at (inv .vs) (s .best) leads)
+
+    goes-expanding : v .point ≡ point (s .setup .n) (reflected (s .setup) (s .standing .points)) → v .cost < f1 s → Stepped (rs ▹ v) [] 0 s (waiting (Expanding (v .cost)) 1 (noted v s))
+    goes-expanding shape low =
+        let l : v .cost < s .best .cost = rw first-cost at low in
+        let r : v ≡ record { point = point (s .setup .n) (reflected (s .setup) (s .standing .points)); cost = v .cost } = λ i. record { point = shape i; cost = v .cost } in
+        goes-on rs v s inv after (Expanding (v .cost)) (inv .gs) (s .gathered) gathers-more (idle .some)
+        (idle-on idle, record { reflects = best-falls (s .readings) v (s .best) (idle .some) l ∙ r; lower = rw (carries 0) at low }) tt
+
+    takes-reflected : f1 s ≤ v .cost → v .cost < fn s → Stepped (rs ▹ v) (reflection ∷ []) 0 s (taken reflection v (noted v s))
+    unfolding countOf
+    takes-reflected high low =
+        takes rs v s inv after (idle .stood) reflection v (s .best) (known-new rs v) leads (sym (bestAfter-some (s .readings) v (s .best) (idle .some)))
+        (omega (arith, rw (carries (s .setup .n - 1)) at low, in-place (s .setup .n - 1) (idle .stood) (omega arith))) (idle .some) (omega (arith, idle .unfinished)) refl refl
+
+    goes-contracting : (side : Side) → f1 s ≤ v .cost → Beside side (v .cost) (getD (inv .vs) (s .setup .n) blank .cost) → Stepped (rs ▹ v) [] 0 s (waiting (Contracting side (v .cost)) 1 (noted v s))
+    goes-contracting side high beside =
+        let h : s .best .cost ≤ v .cost = rw first-cost at high in
+        let e = best-stays (s .readings) v (s .best) (idle .some) h in
+        let low : v .cost ≤ maxCost = after .fine v (known-new rs v) .low in
+        goes-on rs v s inv after (Contracting side (v .cost)) (inv .gs) (s .gathered) gathers-more (idle .some)
+        (idle-on idle, record { leads = rw e leads; higher = rw e h; low = low; beside = beside }) tt
+
+    pub reflect-step : v .point ≡ point (s .setup .n) (reflected (s .setup) (s .standing .points))
+        → Stepped (rs ▹ v) (pieceIf (not (ltb (v .cost) (f1 s)) && ltb (v .cost) (fn s)) reflection) 0 s (reflectedOn v (noted v s))
+    unfolding reflectedOn
+    reflect-step shape =
+        let f = v .cost in
+        let u = noted v s in
+        let outside = waiting (Contracting Outside f) 1 u in
+        let inside = waiting (Contracting Inside f) 1 u in
+        by-test (λ (b : Bool). Stepped (rs ▹ v) (pieceIf (not b && ltb f (fn s)) reflection) 0 s (pick b (waiting (Expanding f) 1 u) (pick (ltb f (fn s)) (taken reflection v u) (pick (ltb f (fw s)) outside inside)))) (ltb f (f1 s))
+        (λ e. goes-expanding shape (ltb-true f (f1 s) e))
+        (λ e.
+            let high = ltb-false f (f1 s) e in
+            by-test (λ (b : Bool). Stepped (rs ▹ v) (pieceIf b reflection) 0 s (pick b (taken reflection v u) (pick (ltb f (fw s)) outside inside))) (ltb f (fn s))
+            (λ d. takes-reflected high (ltb-true f (fn s) d))
+            (λ d.
+                by-test (λ (b : Bool). Stepped (rs ▹ v) [] 0 s (pick b outside inside)) (ltb f (fw s))
+                (λ c. goes-contracting Outside high (rw (carries (s .setup .n)) at (ltb-true f (fw s) c)))
+                (λ c. goes-contracting Inside high tt)))
+
+  -- ---- the expanded point
+
+  module _ (fr : ℕ) (idle : Idle 1 (inv .gs) (s .readings) (s .counts)) (h : AtExpand fr (s .setup) (s .standing) (inv .vs) (s .best)) where
+    -- u is lower than every vertex, and is the best now
+    takes-lower : (u : Vertex) → List·Memᴰ u (rs ▹ v) → u .cost ≤ fr → bestAfter (s .readings) v (s .best) ≡ u → Stepped (rs ▹ v) (expansion ∷ []) 0 s (taken expansion u (noted v s))
+    unfolding countOf
+    takes-lower u mem low best =
+        let x = getD (inv .vs) 0 blank in
+        let first : ltb (u .cost) (x .cost) ≡ true = lt-ltb (u .cost) (x .cost) (omega (arith, h .lower)) in
+        takes rs v s inv after (idle .stood) expansion u x mem (leads-self (inv .vs) (omega (arith, inv .stands .all (idle .stood)))) (rw first (sym best))
+        (omega (arith, h .lower, in-place 0 (idle .stood) (omega arith))) (idle .some) (omega (arith, idle .unfinished)) refl refl
+
+    reflected-cost : s .best .cost ≡ fr
+    reflected-cost = ap costOf (h .reflects)
+
+    pub expand-step : Stepped (rs ▹ v) (expansion ∷ []) 0 s (expandedOn fr v (noted v s))
+    unfolding expandedOn
+    expand-step =
+        let r = reflectedVertex fr s in
+        by-test (λ (b : Bool). Stepped (rs ▹ v) (expansion ∷ []) 0 s (taken expansion (better b v r) (noted v s))) (ltb (v .cost) fr)
+        (λ e. let l = ltb-true (v .cost) fr e in takes-lower v (known-new rs v) (omega arith) (best-falls (s .readings) v (s .best) (idle .some) (omega (arith, reflected-cost))))
+        (λ e.
+            let l = ltb-false (v .cost) fr e in
+            takes-lower r (Memᴰ·cast (sym (h .reflects)) (best-known (idle .some))) (omega arith) (best-stays (s .readings) v (s .best) (idle .some) (omega (arith, reflected-cost)) ∙ h .reflects))
+
+  -- ---- the contracted point
+
+  module _ (fr : ℕ) (idle : Idle 1 (inv .gs) (s .readings) (s .counts)) where
+    takes-contracted : (side : Side) → AtContract side fr (s .setup .n) (inv .vs) (s .best) → v .cost < getD (inv .vs) (s .setup .n) blank .cost → Stepped (rs ▹ v) (contraction ∷ []) 0 s (taken contraction v (noted v s))
+    unfolding countOf
+    takes-contracted side h low =
+        takes rs v s inv after (idle .stood) contraction v (s .best) (known-new rs v) (h .leads) (sym (bestAfter-some (s .readings) v (s .best) (idle .some))) low (idle .some) (omega (arith, idle .unfinished)) refl refl
+
+    -- x1, which a shrink keeps, is the best
+    kept-best : (side : Side) → AtContract side fr (s .setup .n) (inv .vs) (s .best) → place (s .standing) 0 ≡ s .best
+    kept-best side h =
+        let n : length (inv .vs) ≡ s .setup .n + 1 = inv .stands .all (idle .stood) in
+        rw (inv .stands .are) (place-pack (inv .vs) 0 (whole (inv .noted) (inv .stands .known)) (omega arith) ∙ leads-at (inv .vs) (s .best) (h .leads))
+
+    goes-shrinking : (side : Side) → AtContract side fr (s .setup .n) (inv .vs) (s .best) → s .best .cost ≤ v .cost → Stepped (rs ▹ v) [] 0 s (shrinking (noted v s))
+    unfolding Ordered
+    goes-shrinking side h high =
+        let known : Known (s .best ∷ []) (rs ▹ v) = λ w m. Memᴰ·cast (List·Memᴰ·eq-of-singleton m) (best-known (idle .some)) in
+        let e = best-stays (s .readings) v (s .best) (idle .some) high in
+        let one : AtShrink 1 (s .setup .n) (s .best ∷ []) (s .readings + 1) (opened 1 (s .counts)) (bestAfter (s .readings) v (s .best)) =
+            record { low = omega arith; high = after .sane .atLeast; many = refl; sorted = (tt, tt); leads = rw e; unfinished = omega (arith, idle .unfinished); stood = idle .stood; some = omega arith } in
+        goes-on rs v s inv after (Shrinking 1) (s .best ∷ []) (pack (place (s .standing) 0 ∷ [])) (record { are = ap (λ (x : Vertex). pack (x ∷ [])) (kept-best side h); known = known }) (idle .some) one tt
+
+    pub contract-step : (side : Side) → AtContract side fr (s .setup .n) (inv .vs) (s .best) → Stepped (rs ▹ v) (pieceIf (wins side fr (v .cost) s) contraction) 0 s (contractedOn side fr v (noted v s))
+    unfolding contractedOn
+    contract-step Outside h =
+        by-test (λ (b : Bool). Stepped (rs ▹ v) (pieceIf b contraction) 0 s (pick b (taken contraction v (noted v s)) (shrinking (noted v s)))) (leb (v .cost) fr)
+        (λ e. let l = leb-true (v .cost) fr e in takes-contracted Outside h (omega (arith, h .beside)))
+        (λ e. let l = leb-false (v .cost) fr e in goes-shrinking Outside h (omega (arith, h .higher)))
+    contract-step Inside h =
+        by-test (λ (b : Bool). Stepped (rs ▹ v) (pieceIf b contraction) 0 s (pick b (taken contraction v (noted v s)) (shrinking (noted v s)))) (ltb (v .cost) (fw s))
+        (λ e. takes-contracted Inside h (rw (carries (s .setup .n)) at (ltb-true (v .cost) (fw s) e)))
+        (λ e.
+            let l : getD (inv .vs) (s .setup .n) blank .cost ≤ v .cost = rw (carries (s .setup .n)) at (ltb-false (v .cost) (fw s) e) in
+            let q : getD (inv .vs) 0 blank .cost ≡ s .best .cost = ap costOf (leads-at (inv .vs) (s .best) (h .leads)) in
+            goes-shrinking Inside h (omega (arith, in-place 0 (idle .stood) (omega arith))))
