@@ -11,3 +11,4 @@ pub mod Stepping
 pub mod Moving
 pub mod Gathering
 pub mod Iterating
+pub mod Accepting
