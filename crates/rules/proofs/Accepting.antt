@@ -44,7 +44,7 @@ module _ (rs : List Vertex) (v : Vertex) (s : Search) (inv : Inv rs s) (after : 
       let known : Known (v ∷ []) (rs ▹ v) = λ w m. Memᴰ·cast (List·Memᴰ·eq-of-singleton m) (known-new rs v) in
       let e = best-falls (s .readings) v (s .best) (idle .some) l in
       let one : AtBuild 1 (s .setup .n) (v ∷ []) (s .readings + 1) (probedOnce (s .counts)) (bestAfter (s .readings) v (s .best)) =
-          record { high = after .sane .atLeast; many = refl; sorted = (tt, tt); leads = λ m. rw e; unfinished = omega (arith, idle .unfinished); first = λ q. absurd (omega (arith, idle .stood)); again = λ m. omega arith; some = λ m. omega arith } in
+      record { high = after .sane .atLeast; many = refl; sorted = (tt, tt); leads = λ m. rw e; unfinished = omega (arith, idle .unfinished); first = λ q. absurd (omega (arith, idle .stood)); again = λ m. omega arith; some = λ m. omega arith } in
       probes-on rs v s inv after (Building 1) (v ∷ []) (pack (v ∷ [])) (v .point) (record { are = refl; known = known }) (idle .some) (idle .unfinished) one
 
   misses : s .best .cost ≤ v .cost → Stepped (rs ▹ v) [] 1 s (probeMissed p probedSearch)
@@ -55,8 +55,8 @@ module _ (rs : List Vertex) (v : Vertex) (s : Search) (inv : Inv rs s) (after : 
       by-test (λ (b : Bool). Stepped (rs ▹ v) [] 1 s (pick b (withPhase (Ended Settled) probedSearch) (withPhase (Probing (p + 1)) probedSearch))) (eqb (p + 1) (2 * s .setup .n))
       (λ e. probes-on rs v s inv after (Ended Settled) (inv .gs) (s .gathered) (s .center) more (idle .some) (idle .unfinished) tt)
       (λ e.
-          let d = eqb-false (p + 1) (2 * s .setup .n) e in
-          probes-on rs v s inv after (Probing (p + 1)) (inv .gs) (s .gathered) (s .center) more (idle .some) (idle .unfinished) (still, first, omega (arith, d)))
+      let d = eqb-false (p + 1) (2 * s .setup .n) e in
+      probes-on rs v s inv after (Probing (p + 1)) (inv .gs) (s .gathered) (s .center) more (idle .some) (idle .unfinished) (still, first, omega (arith, d)))
 
   probe-step : Stepped (rs ▹ v) [] 1 s (probedOn p (s .best .cost) v (noted v s))
   unfolding probedOn
@@ -128,15 +128,15 @@ budget-step rs ps probe s u h =
     let i = h .inv in
     record {
       inv =
-        record {
-          vs = i .vs;
-          gs = i .gs;
-          noted = i .noted;
-          stands = i .stands;
-          gathers = i .gathers;
-          equation = i .equation;
-          phase = spent-at b (u .phase) (u .setup) (u .standing) (i .vs) (i .gs) (u .readings) (u .counts) (u .best) (i .phase);
-        };
+          record {
+            vs = i .vs;
+            gs = i .gs;
+            noted = i .noted;
+            stands = i .stands;
+            gathers = i .gathers;
+            equation = i .equation;
+            phase = spent-at b (u .phase) (u .setup) (u .standing) (i .vs) (i .gs) (u .readings) (u .counts) (u .best) (i .phase);
+          };
       kept = h .kept;
       counts = h .counts;
       unfinished = h .unfinished;

@@ -6,7 +6,6 @@ use Prim.Native.Nat.{ℕ, zero, suc, _+_, _-_, _*_, _≤_, _<_}
 use native.Mathlib.Omega.{arith}
 use native.Mathlib.Nat.{not-suc-le-zero}
 use lib.ListN.{length, getD, take, drop}
-use lib.Seq.{take-all}
 use lib.Dec.{eqb}
 use lib.Ieee.{Float}
 use borrow.Author.Tests.{eqb-true, eqb-false}
@@ -18,10 +17,9 @@ use Rattle.rules.specs.declared.Search.{Search}
 use Rattle.rules.specs.declared.Counts.{Counts}
 use Rattle.rules.specs.declared.Phase.the-variants.{Building, Shrinking}
 use Rattle.rules.proofs.Order.{length-insert, ordered-insert, first-insert}
-use Rattle.rules.proofs.Places.{unpack-take}
 use Rattle.rules.proofs.Invariant.{Known, Leads, Noted, Gathers, AtBuild, AtShrink, Inv}
 use Rattle.rules.proofs.Noting.{_▹_, known-more, known-new, bestAfter-some}
-use Rattle.rules.proofs.Stepping.{Stepped, by-test, whole, finish}
+use Rattle.rules.proofs.Stepping.{Stepped, by-test, gathered-are, finish}
 use Rattle.rules.proofs.Moving.{known-insert, goes-on, begins}
 
 -- a list with no element
@@ -46,10 +44,8 @@ later-open (suc b) i = refl
 
 module _ (rs : List Vertex) (v : Vertex) (s : Search) (inv : Inv rs s) (after : Noted (rs ▹ v) (s .setup) (s .readings + 1) (bestAfter (s .readings) v (s .best))) where
   -- the gathered vertices, read back
-  gathered-are : (i : ℕ) → length (inv .gs) ≡ i → i ≤ 9 → unpack i (s .gathered) ≡ inv .gs
-  gathered-are i e l =
-      let h = inv .gathers in
-      rw (h .are) (unpack-take i (inv .gs) (whole (inv .noted) (h .known)) (omega arith) (omega arith) ∙ take-all i (inv .gs) (omega arith))
+  gathered : (i : ℕ) → length (inv .gs) ≡ i → unpack i (s .gathered) ≡ inv .gs
+  gathered i e = gathered-are rs (inv .gs) (s .setup) (s .readings) (s .best) (s .gathered) i (inv .noted) (inv .gathers) e
 
   -- with the newcomer
   gathers-on : Gathers (rs ▹ v) (insert v (inv .gs)) (pack (insert v (inv .gs)))
@@ -109,7 +105,7 @@ module _ (rs : List Vertex) (v : Vertex) (s : Search) (inv : Inv rs s) (after : 
     build-step =
         let gs = insert v (inv .gs) in
         let u = noted v s in
-        rw (gathered-are i (h .many) (omega (arith, h .high, after .sane .atMost8)))
+        rw (gathered i (h .many))
         (by-test (λ (b : Bool). Stepped (rs ▹ v) (pieceIf b build) 0 s (pick b (finished build [] [] gs u) (waiting (Building (i + 1)) (firstOpen (s .counts .builds) i) (withGathered gs u))))
         (eqb i (s .setup .n))
         (λ e. build-ends (eqb-true i (s .setup .n) e))
@@ -146,7 +142,7 @@ module _ (rs : List Vertex) (v : Vertex) (s : Search) (inv : Inv rs s) (after : 
         let gs = insert v (inv .gs) in
         let u = noted v s in
         let old = map pointOf (drop 1 (unpack (s .setup .n + 1) (s .standing))) in
-        rw (gathered-are j (h .many) (omega (arith, h .high, after .sane .atMost8)))
+        rw (gathered j (h .many))
         (by-test (λ (b : Bool). Stepped (rs ▹ v) (pieceIf b shrink) 0 s (pick b (finished shrink old (shrunkPoints u) gs u) (waiting (Shrinking (j + 1)) 1 (withGathered gs u))))
         (eqb j (s .setup .n))
         (λ e. shrink-ends old (shrunkPoints u) (eqb-true j (s .setup .n) e))

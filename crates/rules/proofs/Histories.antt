@@ -38,7 +38,7 @@ unfolding run
 run-append s [] q = refl
 run-append s (c ∷ p) q = run-append (accept s c) p q
 
-countOf-append : (x : Piece) (p q : List Piece) → countOf x (p ++ q) ≡ countOf x p + countOf x q
+pub countOf-append : (x : Piece) (p q : List Piece) → countOf x (p ++ q) ≡ countOf x p + countOf x q
 unfolding countOf
 countOf-append x [] q = omega arith
 countOf-append x (y ∷ p) q = rw (countOf-append x p q) (omega arith)

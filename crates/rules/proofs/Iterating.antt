@@ -104,13 +104,13 @@ module _ (rs : List Vertex) (v : Vertex) (s : Search) (inv : Inv rs s) (after : 
         by-test (λ (b : Bool). Stepped (rs ▹ v) (pieceIf (not b && ltb f (fn s)) reflection) 0 s (pick b (waiting (Expanding f) 1 u) (pick (ltb f (fn s)) (taken reflection v u) (pick (ltb f (fw s)) outside inside)))) (ltb f (f1 s))
         (λ e. goes-expanding shape (ltb-true f (f1 s) e))
         (λ e.
-            let high = ltb-false f (f1 s) e in
-            by-test (λ (b : Bool). Stepped (rs ▹ v) (pieceIf b reflection) 0 s (pick b (taken reflection v u) (pick (ltb f (fw s)) outside inside))) (ltb f (fn s))
-            (λ d. takes-reflected high (ltb-true f (fn s) d))
-            (λ d.
-                by-test (λ (b : Bool). Stepped (rs ▹ v) [] 0 s (pick b outside inside)) (ltb f (fw s))
-                (λ c. goes-contracting Outside high (rw (carries (s .setup .n)) at (ltb-true f (fw s) c)))
-                (λ c. goes-contracting Inside high tt)))
+        let high = ltb-false f (f1 s) e in
+        by-test (λ (b : Bool). Stepped (rs ▹ v) (pieceIf b reflection) 0 s (pick b (taken reflection v u) (pick (ltb f (fw s)) outside inside))) (ltb f (fn s))
+        (λ d. takes-reflected high (ltb-true f (fn s) d))
+        (λ d.
+        by-test (λ (b : Bool). Stepped (rs ▹ v) [] 0 s (pick b outside inside)) (ltb f (fw s))
+        (λ c. goes-contracting Outside high (rw (carries (s .setup .n)) at (ltb-true f (fw s) c)))
+        (λ c. goes-contracting Inside high tt)))
 
   -- ---- the expanded point
 
@@ -134,8 +134,8 @@ module _ (rs : List Vertex) (v : Vertex) (s : Search) (inv : Inv rs s) (after : 
         by-test (λ (b : Bool). Stepped (rs ▹ v) (expansion ∷ []) 0 s (taken expansion (better b v r) (noted v s))) (ltb (v .cost) fr)
         (λ e. let l = ltb-true (v .cost) fr e in takes-lower v (known-new rs v) (omega arith) (best-falls (s .readings) v (s .best) (idle .some) (omega (arith, reflected-cost))))
         (λ e.
-            let l = ltb-false (v .cost) fr e in
-            takes-lower r (Memᴰ·cast (sym (h .reflects)) (best-known (idle .some))) (omega arith) (best-stays (s .readings) v (s .best) (idle .some) (omega (arith, reflected-cost)) ∙ h .reflects))
+        let l = ltb-false (v .cost) fr e in
+        takes-lower r (Memᴰ·cast (sym (h .reflects)) (best-known (idle .some))) (omega arith) (best-stays (s .readings) v (s .best) (idle .some) (omega (arith, reflected-cost)) ∙ h .reflects))
 
   -- ---- the contracted point
 
@@ -157,7 +157,7 @@ module _ (rs : List Vertex) (v : Vertex) (s : Search) (inv : Inv rs s) (after : 
         let known : Known (s .best ∷ []) (rs ▹ v) = λ w m. Memᴰ·cast (List·Memᴰ·eq-of-singleton m) (best-known (idle .some)) in
         let e = best-stays (s .readings) v (s .best) (idle .some) high in
         let one : AtShrink 1 (s .setup .n) (s .best ∷ []) (s .readings + 1) (opened 1 (s .counts)) (bestAfter (s .readings) v (s .best)) =
-            record { low = omega arith; high = after .sane .atLeast; many = refl; sorted = (tt, tt); leads = rw e; unfinished = omega (arith, idle .unfinished); stood = idle .stood; some = omega arith } in
+        record { low = omega arith; high = after .sane .atLeast; many = refl; sorted = (tt, tt); leads = rw e; unfinished = omega (arith, idle .unfinished); stood = idle .stood; some = omega arith } in
         goes-on rs v s inv after (Shrinking 1) (s .best ∷ []) (pack (place (s .standing) 0 ∷ [])) (record { are = ap (λ (x : Vertex). pack (x ∷ [])) (kept-best side h); known = known }) (idle .some) one tt
 
     pub contract-step : (side : Side) → AtContract side fr (s .setup .n) (inv .vs) (s .best) → Stepped (rs ▹ v) (pieceIf (wins side fr (v .cost) s) contraction) 0 s (contractedOn side fr v (noted v s))
@@ -170,6 +170,6 @@ module _ (rs : List Vertex) (v : Vertex) (s : Search) (inv : Inv rs s) (after : 
         by-test (λ (b : Bool). Stepped (rs ▹ v) (pieceIf b contraction) 0 s (pick b (taken contraction v (noted v s)) (shrinking (noted v s)))) (ltb (v .cost) (fw s))
         (λ e. takes-contracted Inside h (rw (carries (s .setup .n)) at (ltb-true (v .cost) (fw s) e)))
         (λ e.
-            let l : getD (inv .vs) (s .setup .n) blank .cost ≤ v .cost = rw (carries (s .setup .n)) at (ltb-false (v .cost) (fw s) e) in
-            let q : getD (inv .vs) 0 blank .cost ≡ s .best .cost = ap costOf (leads-at (inv .vs) (s .best) (h .leads)) in
-            goes-shrinking Inside h (omega (arith, in-place 0 (idle .stood) (omega arith))))
+        let l : getD (inv .vs) (s .setup .n) blank .cost ≤ v .cost = rw (carries (s .setup .n)) at (ltb-false (v .cost) (fw s) e) in
+        let q : getD (inv .vs) 0 blank .cost ≡ s .best .cost = ap costOf (leads-at (inv .vs) (s .best) (h .leads)) in
+        goes-shrinking Inside h (omega (arith, in-place 0 (idle .stood) (omega arith))))

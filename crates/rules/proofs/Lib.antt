@@ -12,3 +12,5 @@ pub mod Moving
 pub mod Gathering
 pub mod Iterating
 pub mod Accepting
+pub mod Running
+pub mod Sound

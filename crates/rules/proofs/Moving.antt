@@ -52,7 +52,7 @@ module _ (rs : List Vertex) (v : Vertex) (s : Search) (inv : Inv rs s) (after : 
     stay =
         let h = inv .stands in
         let n : length (inv .vs) ≡ s .setup .n + 1 = h .all stood in
-        rw (h .are) (unpack-take (s .setup .n) (inv .vs) (whole (inv .noted) (h .known)) (omega (arith, inv .noted .sane .atMost8)) (omega arith))
+        rw (h .are) (unpack-take (s .setup .n) (inv .vs) (whole (inv .noted) (h .known)) (omega arith))
 
     -- a lower cost in the place of the worst makes the sum fall
     sum-falls : (u : Vertex) → u .cost < getD (inv .vs) (s .setup .n) blank .cost → 1 + total (map costOf (insert u (take (s .setup .n) (inv .vs)))) ≤ standingCosts s
@@ -93,15 +93,15 @@ module _ (rs : List Vertex) (v : Vertex) (s : Search) (inv : Inv rs s) (after : 
   goes probe p gs gathered center c counts same gathers equation unfinished here fresh =
       record {
         inv =
-          record {
-            vs = inv .vs;
-            gs = gs;
-            noted = after;
-            stands = rw same (stands-more rs (inv .vs) v (s .setup) (s .counts .builds) (s .standing) (inv .stands));
-            gathers = gathers;
-            equation = equation;
-            phase = here;
-          };
+            record {
+              vs = inv .vs;
+              gs = gs;
+              noted = after;
+              stands = rw same (stands-more rs (inv .vs) v (s .setup) (s .counts .builds) (s .standing) (inv .stands));
+              gathers = gathers;
+              equation = equation;
+              phase = here;
+            };
         kept = refl;
         counts = counts;
         unfinished = unfinished;

@@ -20,7 +20,6 @@ use Rattle.rules.specs.declared.Setup.{Setup}
 use Rattle.rules.proofs.Invariant.{Known, Fine, Best, Noted}
 
 infixl 40 _▹_
-
 -- the readings, and a new one after them
 abbrev pub _▹_ : List Vertex → Vertex → List Vertex
 _▹_ rs v = rs ++ v ∷ []

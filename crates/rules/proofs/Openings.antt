@@ -1,6 +1,6 @@
 -- What an opening that is not refused gives, and that an unfinished search asks within its limits. Assumes nothing.
 use mathlib.Core.Path.{_≡_, refl, sym, _∙_}
-use mathlib.Core.Bool.{Bool, true, false, true≢false, false≢true, _&&_}
+use mathlib.Core.Bool.{Bool, true, false, true≢false, false≢true, and-eq-true-iff}
 use mathlib.Core.List.{List, [], _∷_}
 use mathlib.Core.Logic.{_↔_, ⊎-elim}
 use Prim.Native.Nat.{ℕ, zero, suc, suc-le-suc, _+_, _-_, _≤_, _<_}
@@ -34,11 +34,6 @@ use Rattle.rules.proofs.Clamp.{lt-le, clamp-low, clamp-high}
 
 -- ---- checks that pass
 
--- a conjunction holds where both parts do
-pub and-iff : (a b : Bool) → ((a && b) ≡ true) ↔ ((a ≡ true) × (b ≡ true))
-and-iff true b = (λ h. (refl, h), λ h. h .1)
-and-iff false b = (λ h. absurd (false≢true h), λ h. h .0)
-
 -- a check accepts where its test holds and those after it accept
 pub check-iff : (b : Bool) (r : Refusal) (v : Verdict) → (check b r v ≡ Accepted) ↔ ((b ≡ true) × (v ≡ Accepted))
 check-iff true r v = (λ h. (refl, h), λ h. h .1)
@@ -46,7 +41,7 @@ check-iff false r v = (λ h. let z : _≡_ {A = ℕ} 0 1 = cc in absurd (omega a
 
 -- an axis that passes has lo < hi, and the checks after it accept
 axis-passes : (i : ℕ) (x : Axis) (v : Verdict) → axisChecks i x v ≡ Accepted → ((x .lo <ᶠ x .hi) ≡ true) × (v ≡ Accepted)
-axis-passes i x v h = let k = simp (check-iff, and-iff) at h in search
+axis-passes i x v h = let k = simp (check-iff, and-eq-true-iff) at h in search
 
 -- the same of the k axes from the i-th on
 axes-pass : (k i : ℕ) (xs : List Axis) (v : Verdict) → axesChecks k i xs v ≡ Accepted
@@ -60,7 +55,7 @@ axes-pass (suc k) i xs v h =
 
 -- a threshold that the opening takes is sound
 threshold-sound : (r : Rule) → inThreshold r ≡ true → soundRule r ≡ true
-threshold-sound (Spread e) h = simp and-iff at h .1
+threshold-sound (Spread e) h = simp and-eq-true-iff at h .1
 threshold-sound (Moved e) h = refl
 threshold-sound (Size e) h = refl
 
@@ -123,8 +118,8 @@ module _ (n : ℕ) (axes : List Axis) (rule : RuleChoice) (c : Coefficients) (bu
     pub opened-sane : Sane (fresh n axes rule c budget .setup)
     unfolding fresh openVerdict
     opened-sane =
-        let counts = simp (check-iff, and-iff) at h in
-        let rest = simp (check-iff, and-iff) at (axes-pass n 0 axes _ (counts .1) .1) in
+        let counts = simp (check-iff, and-eq-true-iff) at h in
+        let rest = simp (check-iff, and-eq-true-iff) at (axes-pass n 0 axes _ (counts .1) .1) in
         record {
           atLeast = omega (arith, leb-true);
           atMost8 = omega (arith, leb-true);

@@ -1,7 +1,7 @@
 -- Laws on vertices in places: `pack` and `unpack` undo one another where the sizes fit. Assumes nothing.
 use mathlib.Core.Path.{_≡_, refl, ap, _∙_, subst⁻¹}
 use mathlib.Core.Bool.{true}
-use mathlib.Core.List.{List, [], _∷_, _++_, map, append-assoc, append-nil, List·Memᴰ, List·Memᴰ·head, List·Memᴰ·tail, List·Memᴰ·not-nil, List·Memᴰ·cases-cons, List·Memᴰ·append-cases}
+use mathlib.Core.List.{List, [], _∷_, _++_, map, map-append, append-assoc, append-nil, List·Memᴰ, List·Memᴰ·head, List·Memᴰ·tail, List·Memᴰ·not-nil, List·Memᴰ·cases-cons, List·Memᴰ·append-cases}
 use mathlib.Core.Logic.{⊎-elim}
 use Prim.Native.Nat.{ℕ, zero, suc, _+_, _-_, _*_, _≤_, _<_}
 use native.Mathlib.Omega.{arith}
@@ -70,14 +70,14 @@ padded-long : (vs : List Vertex) (k : ℕ) → length vs ≤ length (vs ++ repli
 padded-long vs k = simp length-append (omega arith)
 
 -- the first m places hold the first m vertices
-pub unpack-take : (m : ℕ) (vs : List Vertex) → Whole vs → length vs ≤ 9 → m ≤ length vs → unpack m (pack vs) ≡ take m vs
-unpack-take m vs h few l =
+pub unpack-take : (m : ℕ) (vs : List Vertex) → Whole vs → m ≤ length vs → unpack m (pack vs) ≡ take m vs
+unpack-take m vs h l =
     let k = 9 - length vs in
     unpack-store m (vs ++ replicate k blank) (whole-padded vs k h) (omega (arith, padded-long vs k)) ∙ take-append-le m vs _ l
 
 -- packed vertices are found again
-pub unpack-pack : (vs : List Vertex) → Whole vs → length vs ≤ 9 → unpack (length vs) (pack vs) ≡ vs
-unpack-pack vs h few = unpack-take (length vs) vs h few (omega arith) ∙ take-length vs
+pub unpack-pack : (vs : List Vertex) → Whole vs → unpack (length vs) (pack vs) ≡ vs
+unpack-pack vs h = unpack-take (length vs) vs h (omega arith) ∙ take-length vs
 
 -- place i holds vertex i
 pub place-pack : (vs : List Vertex) (i : ℕ) → Whole vs → i < length vs → place (pack vs) i ≡ getD vs i blank
@@ -94,12 +94,7 @@ cost-pack vs i =
 
 -- ---- pack after unpack
 
--- the costs of two lists, one after the other
-map-append : (vs ws : List Vertex) → map costOf (vs ++ ws) ≡ map costOf vs ++ map costOf ws
-map-append [] ws = refl
-map-append (v ∷ vs) ws = ap (λ (l : List ℕ). v .cost ∷ l) (map-append vs ws)
-
--- and their points
+-- the points of two lists, one after the other
 flat-append : (vs ws : List Vertex) → flat (vs ++ ws) ≡ flat vs ++ flat ws
 unfolding flat
 flat-append [] ws = refl
@@ -117,7 +112,7 @@ flat-unpack (suc m) s =
 costs-unpack : (m : ℕ) (s : Simplex) → m ≤ length (s .costs) → map costOf (unpack m s) ≡ take m (s .costs)
 unfolding unpack upTo
 costs-unpack zero s l = refl
-costs-unpack (suc m) s l = rw (map-append, costs-unpack m s (omega arith), take-suc (s .costs) m 0 l)
+costs-unpack (suc m) s l = rw (map-append costOf, costs-unpack m s (omega arith), take-suc (s .costs) m 0 l)
 
 -- a simplex of nine places is that of its vertices
 pub pack-unpack : (s : Simplex) → length (s .points) ≡ 72 → length (s .costs) ≡ 9 → pack (unpack 9 s) ≡ s

@@ -113,7 +113,10 @@ standing-are rs vs t k b zero standing h g = sym (g .none refl)
 standing-are rs vs t k b (suc m) standing h g =
     let n : length vs ≡ t .n + 1 = g .all (omega arith) in
     let e : eqb (suc m) 0 ≡ false = ne-eqb (suc m) 0 (λ q. omega arith) in
-    rw (e, g .are) (unpack-take (t .n + 1) vs (whole h (g .known)) (omega (arith, h .sane .atMost8)) (omega arith) ∙ take-all (t .n + 1) vs (omega arith))
+    rw (e, g .are) (unpack-take (t .n + 1) vs (whole h (g .known)) (omega arith) ∙ take-all (t .n + 1) vs (omega arith))
+
+pub gathered-are : (rs gs : List Vertex) (t : Setup) (k : ℕ) (b : Vertex) (gathered : Simplex) (i : ℕ) → Noted rs t k b → Gathers rs gs gathered → length gs ≡ i → unpack i gathered ≡ gs
+gathered-are rs gs t k b gathered i h g e = rw (g .are) (unpack-take i gs (whole h (g .known)) (omega arith) ∙ take-all i gs (omega arith))
 
 -- ---- the end of a build or an iteration
 
@@ -140,15 +143,15 @@ module _ (rs : List Vertex) (v : Vertex) (s : Search) (p : Piece) (old new : Lis
       let idle : Idle 0 [] (s .readings + 1) c = record { stood = stood; some = omega arith; empty = refl; unfinished = closed-unfinished p (s .counts) } in
       record {
         inv =
-          record {
-            vs = vs;
-            gs = [];
-            noted = after;
-            stands = stands;
-            gathers = record { are = refl; known = λ w m. absurd (List·Memᴰ·not-nil m) };
-            equation = closes p (s .setup .n) (s .readings) (s .counts) equation some unfinished;
-            phase = tested (met (s .setup .rule) (s .setup .n) p old new vs) (s .readings + 1) c best (pack vs) (after .sane .atLeast) idle leads;
-          };
+            record {
+              vs = vs;
+              gs = [];
+              noted = after;
+              stands = stands;
+              gathers = record { are = refl; known = λ w m. absurd (List·Memᴰ·not-nil m) };
+              equation = closes p (s .setup .n) (s .readings) (s .counts) equation some unfinished;
+              phase = tested (met (s .setup .rule) (s .setup .n) p old new vs) (s .readings + 1) c best (pack vs) (after .sane .atLeast) idle leads;
+            };
         kept = refl;
         counts = counted-one p (s .counts);
         unfinished = closed-unfinished p (s .counts);
