@@ -14,3 +14,4 @@ pub mod Iterating
 pub mod Accepting
 pub mod Running
 pub mod Sound
+pub mod Settling

@@ -37,13 +37,13 @@ bestAfter-some (suc k) v b h = refl
 
 -- ---- one cost more
 
-below-snoc : (h : List ℕ) (c j : ℕ) → j < length (h ++ c ∷ []) → (j ≡ length h) ⊎ (j < length h)
+pub below-snoc : (h : List ℕ) (c j : ℕ) → j < length (h ++ c ∷ []) → (j ≡ length h) ⊎ (j < length h)
 below-snoc h c j l = eq-or-lt-of-le (le-of-suc-le-suc (rw (length-append, add-one) at l))
 
-old-cost : (h : List ℕ) (c j : ℕ) → j < length h → getD (h ++ c ∷ []) j 0 ≡ getD h j 0
+pub old-cost : (h : List ℕ) (c j : ℕ) → j < length h → getD (h ++ c ∷ []) j 0 ≡ getD h j 0
 old-cost h c j l = List·getD-append h (c ∷ []) 0 j l
 
-new-cost : (h : List ℕ) (c : ℕ) → getD (h ++ c ∷ []) (length h) 0 ≡ c
+pub new-cost : (h : List ℕ) (c : ℕ) → getD (h ++ c ∷ []) (length h) 0 ≡ c
 new-cost h c = getD-append-seam h c [] 0
 
 longer : (h : List ℕ) (c : ℕ) → length h < length (h ++ c ∷ [])

@@ -1,0 +1,189 @@
+-- Settled exactly when a probe round has been told in full and none was lower. Assumes nothing.
+use mathlib.Core.Path.{_≡_, refl, sym, ap, _∙_, subst}
+use mathlib.Core.Bool.{Bool, true, false, true≢false}
+use mathlib.Core.List.{List, [], _∷_, _++_, append-assoc, append-nil}
+use mathlib.Core.Logic.{⊎-elim}
+use Prim.Native.Nat.{ℕ, zero, suc, _+_, _-_, _*_, _≤_, _<_, suc-le-suc}
+use native.Mathlib.Omega.{arith}
+use native.Mathlib.Nat.{not-suc-le-zero}
+use lib.ListN.{length, getD, length-append}
+use lib.Seq.{append-snoc}
+use lib.Dec.{eqb, ltb}
+use borrow.Author.Tests.{eqb-true, ltb-false, le-ltb, eq-eqb, ne-eqb}
+use Rattle.rules.specs.Accept.{bestAfter, noted, withPhase, withCounts, probedOnce, pick, restarted, probeMissed, probedOn, advanced, spentPhase, budgeted, accept, run}
+use Rattle.rules.specs.Calls.{isEnded, maxCost}
+use Rattle.rules.specs.Tally.{isProbe}
+use Rattle.rules.specs.Claims.{FullRound}
+use Rattle.rules.specs.declared.Vertex.{Vertex}
+use Rattle.rules.specs.declared.Search.{Search}
+use Rattle.rules.specs.declared.Phase.{Phase}
+use Rattle.rules.specs.declared.Phase.the-variants.{Building, Reflecting, Expanding, Contracting, Shrinking, Probing, Ended}
+use Rattle.rules.specs.declared.Cause.the-variants.{Settled, Budget}
+use Rattle.rules.proofs.Histories.{told, Told, run-append}
+use Rattle.rules.proofs.Invariant.{Inv, Idle}
+use Rattle.rules.proofs.Noting.{_▹_, below-snoc, old-cost, new-cost}
+use Rattle.rules.proofs.Stepping.{Fresh}
+use Rattle.rules.proofs.Iterating.{best-stays}
+use Rattle.rules.proofs.Accepting.{Room, accept-step, accept-room}
+
+-- the phase after probe j: whether it was lower, and whether it was the last
+abbrev afterProbe : Bool → Bool → ℕ → Phase
+afterProbe true last j = Building 1
+afterProbe false true j = Ended Settled
+afterProbe false false j = Probing (j + 1)
+
+-- a probe told: the phase, and the best, which every way keeps as noted
+budgeted-probe : (lower last : Bool) (j : ℕ) (v : Vertex) (t : Search)
+    → budgeted (pick lower (restarted v t) (pick last (withPhase (Ended Settled) t) (withPhase (Probing (j + 1)) t))) .phase ≡ spentPhase (eqb (t .readings) (t .setup .budget)) (afterProbe lower last j)
+budgeted-probe true last j v t = refl
+budgeted-probe false true j v t = refl
+budgeted-probe false false j v t = refl
+
+best-probe : (lower last : Bool) (j : ℕ) (v : Vertex) (t : Search) → pick lower (restarted v t) (pick last (withPhase (Ended Settled) t) (withPhase (Probing (j + 1)) t)) .best ≡ t .best
+best-probe true last j v t = refl
+best-probe false true j v t = refl
+best-probe false false j v t = refl
+
+module _ (s : Search) (c j : ℕ) (e : s .phase ≡ Probing j) where
+  probed : accept s c ≡ budgeted (probedOn j (s .best .cost) (told s c) (noted (told s c) s))
+  unfolding accept advanced
+  probed = ap (λ (p : Phase). budgeted (advanced p (s .best .cost) (told s c) (noted (told s c) s))) e
+
+  phase-after : accept s c .phase ≡ spentPhase (eqb (s .readings + 1) (s .setup .budget)) (afterProbe (ltb c (s .best .cost)) (eqb (j + 1) (2 * s .setup .n)) j)
+  unfolding probedOn
+  phase-after = ap (λ (u : Search). u .phase) probed ∙ budgeted-probe (ltb c (s .best .cost)) (eqb (j + 1) (2 * s .setup .n)) j (told s c) (withCounts (probedOnce (s .counts)) (noted (told s c) s))
+
+  best-after : accept s c .best ≡ bestAfter (s .readings) (told s c) (s .best)
+  unfolding probedOn
+  best-after = ap (λ (u : Search). u .best) probed ∙ best-probe (ltb c (s .best .cost)) (eqb (j + 1) (2 * s .setup .n)) j (told s c) (withCounts (probedOnce (s .counts)) (noted (told s c) s))
+
+  -- a probe comes after readings
+  some-read : (rs : List Vertex) → Inv rs s → 1 ≤ s .readings
+  some-read rs inv = (rw e at (inv .phase)) .0 .some
+
+  -- a probe that is not lower leaves the best cost
+  best-kept : (rs : List Vertex) → Inv rs s → s .best .cost ≤ c → accept s c .best .cost ≡ s .best .cost
+  best-kept rs inv l = ap (λ (v : Vertex). v .cost) (best-after ∙ best-stays (s .readings) (told s c) (s .best) (some-read rs inv) l)
+
+-- ---- a full round settles
+
+still-settled : (b : Bool) → spentPhase b (Ended Settled) ≡ Ended Settled
+still-settled true = refl
+still-settled false = refl
+
+-- a search that has not ended has not spent its budget
+unspent : (b : Bool) (j : ℕ) (p : Phase) → p ≡ spentPhase b (Probing j) → isEnded p ≡ false → p ≡ Probing j
+unspent true j p e l = absurd (true≢false (sym (ap isEnded e) ∙ l))
+unspent false j p e l = e
+
+pub settles : (rs : List Vertex) (s : Search) → Inv rs s → Room s → (q : List ℕ) (j : ℕ) → s .phase ≡ Probing j → j + length q ≡ 2 * s .setup .n → 1 ≤ length q
+    → ((i : ℕ) → i < length q → s .best .cost ≤ getD q i 0) → Told s q → run s q .phase ≡ Ended Settled
+unfolding run Told
+settles rs s inv room [] j e many some low t = absurd (not-suc-le-zero some)
+settles rs s inv room (c ∷ []) j e many some low t =
+    let l = le-ltb c (s .best .cost) (low 0 (omega arith)) in
+    let n = eq-eqb (j + 1) (2 * s .setup .n) many in
+    phase-after s c j e ∙ rw (l, n) (still-settled (eqb (s .readings + 1) (s .setup .budget)))
+settles rs s inv room (c ∷ d ∷ q) j e many some low t =
+    let l = low 0 (omega arith) in
+    let k : accept s c .phase ≡ Probing (j + 1) = unspent (eqb (s .readings + 1) (s .setup .budget)) (j + 1) (accept s c .phase) (phase-after s c j e ∙ rw (le-ltb c (s .best .cost) l, ne-eqb (j + 1) (2 * s .setup .n) (λ x. omega arith))) (t .2 .0) in
+    let g = accept-step rs s inv room c (t .0) (t .1) in
+    let b = best-kept s c j e rs inv l in
+    settles (rs ▹ told s c) (accept s c) (g .inv) (accept-room rs s inv room c (t .0) (t .1)) (d ∷ q) (j + 1) k (rw (g .kept) (omega arith)) (omega arith)
+    (λ i m. rw b (low (suc i) (suc-le-suc m))) (t .2)
+
+-- ---- nothing else does
+
+-- the last j costs of h are a round's, none of them lower than the best at its start, which is still b
+pub record Round (o : Search) (h : List ℕ) (j b : ℕ) : Type 0 where
+  pub before : List ℕ
+  pub round : List ℕ
+  pub splits : h ≡ before ++ round
+  pub begins : run o before .phase ≡ Probing 0
+  pub many : length round ≡ j
+  pub noneLower : (i : ℕ) → i < length round → run o before .best .cost ≤ getD round i 0
+  pub same : run o before .best .cost ≡ b
+
+abbrev pub Rounds : Search → List ℕ → ℕ → Phase → Type 0
+Rounds o h b (Building i) = Unit {0}
+Rounds o h b Reflecting = Unit {0}
+Rounds o h b (Expanding f) = Unit {0}
+Rounds o h b (Contracting side f) = Unit {0}
+Rounds o h b (Shrinking j) = Unit {0}
+Rounds o h b (Probing j) = Round o h j b
+Rounds o h b (Ended Settled) = (before : List ℕ) × (round : List ℕ) × (h ≡ before ++ round) × FullRound o before round
+Rounds o h b (Ended Budget) = Unit {0}
+
+-- a round begins with no cost told
+begun : (o : Search) (h : List ℕ) (p : Phase) → run o h .phase ≡ p → Fresh p → Rounds o h (run o h .best .cost) p
+begun o h (Building i) e f = tt
+begun o h Reflecting e f = tt
+begun o h (Expanding g) e f = tt
+begun o h (Contracting side g) e f = tt
+begun o h (Shrinking j) e f = tt
+begun o h (Probing zero) e f = record { before = h; round = []; splits = rw append-nil; begins = e; many = refl; noneLower = λ i l. absurd (not-suc-le-zero l); same = refl }
+begun o h (Probing (suc p)) e f = absurd f
+begun o h (Ended Settled) e f = absurd f
+begun o h (Ended Budget) e f = tt
+
+-- one more cost that is not lower
+round-more : (o : Search) (h : List ℕ) (j b c d : ℕ) → Round o h j b → b ≤ c → d ≡ b → Round o (h ++ c ∷ []) (j + 1) d
+round-more o h j b c d r l e =
+    record {
+      before = r .before;
+      round = r .round ++ c ∷ [];
+      splits = rw (r .splits) (append-assoc (r .before) (r .round) (c ∷ []));
+      begins = r .begins;
+      many = length-append (r .round) (c ∷ []) ∙ rw (r .many);
+      noneLower = λ i m. ⊎-elim (λ (q : i ≡ length (r .round)). rw (q, new-cost (r .round) c) (omega (arith, r .same))) (λ n. rw (old-cost (r .round) c i n) (r .noneLower i n)) (below-snoc (r .round) c i m);
+      same = r .same ∙ sym e;
+    }
+
+-- with it the round may be full
+round-full : (o : Search) (h : List ℕ) (j b : ℕ) → Round o h j b → j ≡ 2 * o .setup .n → (before : List ℕ) × (round : List ℕ) × (h ≡ before ++ round) × FullRound o before round
+round-full o h j b r e = (r .before, r .round, r .splits, record { begins = r .begins; full = r .many ∙ e; noneLower = r .noneLower })
+
+round-on : (o : Search) (h : List ℕ) (j b c d : ℕ) → Round o h j b → (lower last spent : Bool) → ltb c b ≡ lower → eqb (j + 1) (2 * o .setup .n) ≡ last → (b ≤ c → d ≡ b)
+    → Rounds o (h ++ c ∷ []) d (spentPhase spent (afterProbe lower last j))
+round-on o h j b c d r true last true l e k = tt
+round-on o h j b c d r true last false l e k = tt
+round-on o h j b c d r false true true l e k = let m = ltb-false c b l in round-full o (h ++ c ∷ []) (j + 1) d (round-more o h j b c d r m (k m)) (eqb-true (j + 1) (2 * o .setup .n) e)
+round-on o h j b c d r false true false l e k = let m = ltb-false c b l in round-full o (h ++ c ∷ []) (j + 1) d (round-more o h j b c d r m (k m)) (eqb-true (j + 1) (2 * o .setup .n) e)
+round-on o h j b c d r false false true l e k = tt
+round-on o h j b c d r false false false l e k = let m = ltb-false c b l in round-more o h j b c d r m (k m)
+
+-- ---- along a history
+
+module _ (o : Search) (h : List ℕ) (s : Search) (is : run o h ≡ s) (rs : List Vertex) (inv : Inv rs s) (room : Room s) (kept : s .setup ≡ o .setup) (c : ℕ) (live : isEnded (s .phase) ≡ false) (low : c ≤ maxCost) where
+  pub run-snoc : run o (h ++ c ∷ []) ≡ accept s c
+  unfolding run
+  run-snoc = run-append o h (c ∷ []) ∙ ap (λ (u : Search). accept u c) is
+
+  new-round : isProbe (s .phase) ≡ 0 → Rounds o (h ++ c ∷ []) (accept s c .best .cost) (accept s c .phase)
+  new-round e =
+      rw run-snoc at (begun o (h ++ c ∷ []) (run o (h ++ c ∷ []) .phase) refl (rw run-snoc (accept-step rs s inv room c live low .fresh e)))
+
+  same-round : (j : ℕ) → s .phase ≡ Probing j → Round o h j (s .best .cost) → Rounds o (h ++ c ∷ []) (accept s c .best .cost) (accept s c .phase)
+  same-round j e r =
+      rw (phase-after s c j e)
+      (round-on o h j (s .best .cost) c (accept s c .best .cost) r (ltb c (s .best .cost)) (eqb (j + 1) (2 * s .setup .n)) (eqb (s .readings + 1) (s .setup .budget)) refl (rw kept) (best-kept s c j e rs inv))
+
+  round-step : (p : Phase) → s .phase ≡ p → Rounds o h (s .best .cost) p → Rounds o (h ++ c ∷ []) (accept s c .best .cost) (accept s c .phase)
+  round-step (Building i) e r = new-round (ap isProbe e)
+  round-step Reflecting e r = new-round (ap isProbe e)
+  round-step (Expanding f) e r = new-round (ap isProbe e)
+  round-step (Contracting side f) e r = new-round (ap isProbe e)
+  round-step (Shrinking j) e r = new-round (ap isProbe e)
+  round-step (Probing j) e r = same-round j e r
+  round-step (Ended cause) e r = new-round (ap isProbe e)
+
+pub rounds : (o : Search) (p : List ℕ) (s : Search) → run o p ≡ s → (rs : List Vertex) → Inv rs s → Room s → s .setup ≡ o .setup → Rounds o p (s .best .cost) (s .phase)
+    → (q : List ℕ) → Told s q → Rounds o (p ++ q) (run s q .best .cost) (run s q .phase)
+unfolding run Told
+rounds o p s is rs inv room kept r [] t = rw append-nil r
+rounds o p s is rs inv room kept r (c ∷ q) t =
+    let g = accept-step rs s inv room c (t .0) (t .1) in
+    let next = run-snoc o p s is rs inv room kept c (t .0) (t .1) in
+    let on = round-step o p s is rs inv room kept c (t .0) (t .1) (s .phase) refl r in
+    rw (append-snoc p c q) at
+    (rounds o (p ++ c ∷ []) (accept s c) next (rs ▹ told s c) (g .inv) (accept-room rs s inv room c (t .0) (t .1)) (g .kept ∙ kept) on q (t .2))
