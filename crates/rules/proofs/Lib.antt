@@ -15,3 +15,5 @@ pub mod Accepting
 pub mod Running
 pub mod Sound
 pub mod Settling
+pub mod Begun
+pub mod Calling

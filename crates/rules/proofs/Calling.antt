@@ -1,0 +1,135 @@
+-- Calls on a search of the rules over an accepted history, and lists of them. Assumes nothing.
+use mathlib.Core.Path.{_≡_, refl, sym, ap, _∙_, subst}
+use mathlib.Core.Bool.{Bool, true, false, true≢false, false≢true, cond, not, _&&_}
+use mathlib.Core.List.{List, [], _∷_, _++_}
+use mathlib.Core.Logic.{_↔_}
+use Prim.Native.Nat.{ℕ, zero, suc, _+_, _≤_, _<_}
+use native.Mathlib.Omega.{arith}
+use lib.ListN.{length, getD}
+use lib.Ieee.{nan}
+use Rattle.rules.specs.Simplex.{point}
+use lib.Dec.{eqb, leb}
+use borrow.Author.Tests.{leb-true, ne-eqb, eq-eqb, not-true}
+use Rattle.rules.specs.Trial.{trial}
+use Rattle.rules.specs.Accept.{accept, run}
+use Rattle.rules.specs.Opening.{check}
+use Rattle.rules.specs.Calls.{isEnded, maxCost, undamaged, askVerdict, tellVerdict, bestVerdict, askedBy, toldBy, shownBy, asking, telling, showing}
+use Rattle.rules.specs.History.{Call, ask, tell, best, after1, after, joins, history1, historyFrom, reading, EarliestLeast}
+use Rattle.rules.specs.declared.Vertex.{Vertex}
+use Rattle.rules.specs.declared.Search.{Search}
+use Rattle.rules.specs.declared.Verdict.{Verdict}
+use Rattle.rules.specs.declared.Verdict.the-variants.{Accepted, Refused}
+use Rattle.rules.specs.declared.Refusal.{Refusal}
+use Rattle.rules.specs.declared.Refusal.the-variants.{SearchEnded, CostTooHigh, WrongNumber, NoReading, Damaged}
+use Rattle.rules.proofs.Histories.{Told, told-snoc, readingsOf, run-append}
+use Rattle.rules.proofs.Sound.{never-damaged}
+use Rattle.rules.proofs.Begun.{Begun, whole-run, run-readings, run-best, best-shape}
+
+-- ---- answers by their verdict
+
+refused-not : (r : Refusal) → Refused r ≡ Accepted → ⊥
+refused-not r e = let z : _≡_ {A = ℕ} 0 1 = cc in omega arith
+
+told-verdict : (v : Verdict) (s : Search) (c : ℕ) → toldBy v s c .verdict ≡ v
+told-verdict Accepted s c = refl
+told-verdict (Refused r) s c = refl
+
+-- a refused tell returns the search as given
+pub told-refused : (v : Verdict) (s : Search) (c : ℕ) → (v ≡ Accepted → ⊥) → toldBy v s c .search ≡ s
+told-refused Accepted s c h = absurd (h refl)
+told-refused (Refused r) s c h = refl
+
+-- ask and best always do
+pub asked-search : (v : Verdict) (s : Search) → askedBy v s .search ≡ s
+asked-search Accepted s = refl
+asked-search (Refused r) s = refl
+
+pub shown-search : (v : Verdict) (s : Search) → shownBy v s .search ≡ s
+shown-search Accepted s = refl
+shown-search (Refused r) s = refl
+
+-- three checks accept where all three tests hold
+three-checks : (a b c : Bool) (r q p : Refusal) → (check a r (check b q (check c p Accepted)) ≡ Accepted) ↔ ((a && b && c) ≡ true)
+three-checks true true true r q p = (λ e. refl, λ e. refl)
+three-checks true true false r q p = (λ e. absurd (refused-not p e), λ e. absurd (false≢true e))
+three-checks true false c r q p = (λ e. absurd (refused-not q e), λ e. absurd (false≢true e))
+three-checks false b c r q p = (λ e. absurd (refused-not r e), λ e. absurd (false≢true e))
+
+module _ (o : Search) (begun : Begun o) (h : List ℕ) (t : Told o h) where
+  -- refusal 12 is not given
+  pub run-undamaged : undamaged (run o h) ≡ true
+  run-undamaged = let r = whole-run o begun h t in never-damaged (readingsOf o h) (run o h) (r .inv) (r .room)
+
+  -- ---- tell
+
+  tell-checks : (k c : ℕ) → tellVerdict (run o h) k c ≡ check (not (isEnded (run o h .phase))) SearchEnded (check (eqb k (length h + 1)) WrongNumber (check (leb c maxCost) CostTooHigh Accepted))
+  unfolding tellVerdict
+  tell-checks k c = rw (run-undamaged, run-readings o begun h t)
+
+  -- a tell is accepted exactly when the history says so
+  pub tell-joins : (k c : ℕ) → (tellVerdict (run o h) k c ≡ Accepted) ↔ (joins o h k c ≡ true)
+  tell-joins k c = rw (tell-checks k c) (three-checks (not (isEnded (run o h .phase))) (eqb k (length h + 1)) (leb c maxCost) SearchEnded WrongNumber CostTooHigh)
+
+  pub telling-joins : (k c : ℕ) → (telling (run o h) k c .verdict ≡ Accepted) ↔ (joins o h k c ≡ true)
+  unfolding telling
+  telling-joins k c = rw (told-verdict (tellVerdict (run o h) k c) (run o h) c) (tell-joins k c)
+
+  -- ---- ask
+
+  pub ask-accepted : isEnded (run o h .phase) ≡ false → askVerdict (run o h) ≡ Accepted
+  unfolding askVerdict
+  ask-accepted e = rw (run-undamaged, e)
+
+  pub asking-answers : isEnded (run o h .phase) ≡ false → (asking (run o h) .verdict ≡ Accepted) × (asking (run o h) .number ≡ length h + 1) × (asking (run o h) .point ≡ trial (run o h))
+  unfolding asking
+  asking-answers e = rw (ask-accepted e) (refl, rw (run-readings o begun h t), refl)
+
+  -- ---- best
+
+  pub best-accepted : 0 < length h → bestVerdict (run o h) ≡ Accepted
+  unfolding bestVerdict
+  best-accepted l = rw (run-undamaged, ne-eqb (run o h .readings) 0 (λ e. omega (arith, run-readings o begun h t)))
+
+  pub showing-best : 0 < length h → (k : ℕ) × EarliestLeast h k × (showing (run o h) .verdict ≡ Accepted) × (showing (run o h) .reading ≡ reading o h k)
+  unfolding showing
+  showing-best l =
+      let b = run-best o begun h t l in
+      let shape : _≡_ {A = Vertex} (record { point = point (run o h .setup .n) (λ (a : ℕ). getD (run o h .best .point) a nan); cost = run o h .best .cost }) (run o h .best) =
+      λ i. record { point = best-shape o begun h t l i; cost = run o h .best .cost } in
+      rw (best-accepted l) (b .0, b .1, refl, shape ∙ b .2)
+
+  -- ---- one call
+
+  joins-parts : (a b c : Bool) → (a && b && c) ≡ true → (a ≡ true) × (c ≡ true)
+  joins-parts true true c e = (refl, e)
+  joins-parts true false c e = absurd (false≢true e)
+  joins-parts false b c e = absurd (false≢true e)
+
+  tell-told : (k c : ℕ) → joins o h k c ≡ true → Told o (h ++ c ∷ [])
+  tell-told k c e =
+      let p = joins-parts (not (isEnded (run o h .phase))) (eqb k (length h + 1)) (leb c maxCost) e in
+      told-snoc o h c t (not-true (isEnded (run o h .phase)) (p .0)) (leb-true c maxCost (p .1))
+
+  -- the history after a call is accepted, and the search that the call returns is that of the rules over it
+  abbrev Follows : Call → Type 0
+  Follows c = Told o (history1 o h c) × (after1 (run o h) c ≡ run o (history1 o h c))
+
+  pub follows : (c : Call) → Follows c
+  unfolding asking showing telling run
+  follows ask = (t, asked-search (askVerdict (run o h)) (run o h))
+  follows best = (t, shown-search (bestVerdict (run o h)) (run o h))
+  follows (tell k c) = go (joins o h k c) refl
+    where
+      go : (b : Bool) → joins o h k c ≡ b → Told o (cond b (h ++ c ∷ []) h) × (toldBy (tellVerdict (run o h) k c) (run o h) c .search ≡ run o (cond b (h ++ c ∷ []) h))
+      go true e = (tell-told k c e, rw (tell-joins k c .1 e) (sym (run-append o h (c ∷ []))))
+      go false e = (t, told-refused (tellVerdict (run o h) k c) (run o h) c (λ a. true≢false (sym (tell-joins k c .0 a) ∙ e)))
+
+-- ---- a list of calls
+
+pub all-follow : (o : Search) (begun : Begun o) (cs : List Call) (h : List ℕ) → Told o h → Told o (historyFrom o h cs) × (after (run o h) cs ≡ run o (historyFrom o h cs))
+unfolding after historyFrom
+all-follow o begun [] h t = (t, refl)
+all-follow o begun (c ∷ cs) h t =
+    let f = follows o begun h t c in
+    let r = all-follow o begun cs (history1 o h c) (f .0) in
+    (r .0, ap (λ (s : Search). after s cs) (f .1) ∙ r .1)
