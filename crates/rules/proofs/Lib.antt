@@ -17,3 +17,4 @@ pub mod Sound
 pub mod Settling
 pub mod Begun
 pub mod Calling
+pub mod Claim
