@@ -18,3 +18,4 @@ pub mod Settling
 pub mod Begun
 pub mod Calling
 pub mod Claim
+pub mod Callers

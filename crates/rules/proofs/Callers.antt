@@ -1,0 +1,185 @@
+-- What each caller relies on, of every search that an opening and calls have made. Assumes nothing.
+use mathlib.Core.Path.{_≡_, refl, sym, ap, _∙_, subst}
+use mathlib.Core.Bool.{Bool, true, false, cond, not, and-eq-true-iff}
+use mathlib.Core.List.{List, [], _∷_, _++_}
+use mathlib.Core.Logic.{_↔_}
+use Prim.Native.Nat.{ℕ, _+_, _*_, _≤_, _<_}
+use native.Mathlib.Omega.{arith}
+use lib.ListN.{length, getD, length-append}
+use lib.Dec.{eqb, leb}
+use lib.Ieee.{Float, nan}
+use borrow.Author.Tests.{eqb-true, ne-eqb, eq-eqb}
+use Rattle.rules.specs.Binary64.{_≤ᶠ_}
+use Rattle.rules.specs.Trial.{axis, noAxis, trial}
+use Rattle.rules.specs.Accept.{accept, run}
+use Rattle.rules.specs.Opening.{opening, openVerdict, fresh, check, numberOf}
+use Rattle.rules.specs.Calls.{isEnded, maxCost, undamaged, askVerdict, tellVerdict, bestVerdict, askedBy, toldBy, shownBy, asking, telling, showing}
+use Rattle.rules.specs.History.{Call, ask, tell, best, after1, after, joins, history1, historyFrom, history, reading, EarliestLeast}
+use Rattle.rules.specs.Claims.{Within, Claims}
+use Rattle.rules.specs.declared.Axis.{Axis}
+use Rattle.rules.specs.declared.Coefficients.{Coefficients}
+use Rattle.rules.specs.declared.RuleChoice.{RuleChoice}
+use Rattle.rules.specs.declared.Setup.{Setup}
+use Rattle.rules.specs.declared.Search.{Search}
+use Rattle.rules.specs.declared.Verdict.{Verdict}
+use Rattle.rules.specs.declared.Verdict.the-variants.{Accepted, Refused}
+use Rattle.rules.specs.declared.Refusal.{Refusal}
+use Rattle.rules.specs.declared.Refusal.the-variants.{SearchEnded, CostTooHigh, WrongNumber, NoReading, Damaged}
+use Rattle.rules.proofs.Openings.{opened-verdict, opened-fresh, opened-axis}
+use Rattle.rules.proofs.Histories.{Told}
+use Rattle.rules.proofs.Begun.{Begun}
+use Rattle.rules.proofs.Calling.{run-undamaged, all-follow}
+use Rattle.rules.proofs.Claim.{opened-begun, claim}
+
+-- ---- the calls' verdicts on a search that is not damaged
+
+module _ (s : Search) (h : undamaged s ≡ true) where
+  -- refusal 12 is not among them
+  ask-not-12 : asking s .verdict ≡ Refused Damaged → ⊥
+  unfolding asking askVerdict
+  ask-not-12 e = go (isEnded (s .phase)) (rw h at e)
+    where
+      go : (b : Bool) → askedBy (check (not b) SearchEnded Accepted) s .verdict ≡ Refused Damaged → ⊥
+      go true e = let z : _≡_ {A = ℕ} 0 1 = cc in omega arith
+      go false e = let z : _≡_ {A = ℕ} 0 1 = cc in omega arith
+
+  best-not-12 : showing s .verdict ≡ Refused Damaged → ⊥
+  unfolding showing bestVerdict
+  best-not-12 e = go (eqb (s .readings) 0) (rw h at e)
+    where
+      go : (b : Bool) → shownBy (check (not b) NoReading Accepted) s .verdict ≡ Refused Damaged → ⊥
+      go true e = let z : _≡_ {A = ℕ} 0 1 = cc in omega arith
+      go false e = let z : _≡_ {A = ℕ} 0 1 = cc in omega arith
+
+  tell-not-12 : (k c : ℕ) → telling s k c .verdict ≡ Refused Damaged → ⊥
+  unfolding telling tellVerdict
+  tell-not-12 k c e = go (isEnded (s .phase)) (eqb k (s .readings + 1)) (leb c maxCost) (rw h at e)
+    where
+      go : (a b d : Bool) → toldBy (check (not a) SearchEnded (check b WrongNumber (check d CostTooHigh Accepted))) s c .verdict ≡ Refused Damaged → ⊥
+      go true b d e = let z : _≡_ {A = ℕ} 0 1 = cc in omega arith
+      go false false d e = let z : _≡_ {A = ℕ} 0 1 = cc in omega arith
+      go false true false e = let z : _≡_ {A = ℕ} 0 1 = cc in omega arith
+      go false true true e = let z : _≡_ {A = ℕ} 0 1 = cc in omega arith
+
+  -- a number that is not the next is refused as 10, or as 8 where the search has ended
+  tell-wrong : (k c : ℕ) → (k ≡ s .readings + 1 → ⊥) → telling s k c ≡ record { verdict = Refused (cond (isEnded (s .phase)) SearchEnded WrongNumber); search = s }
+  unfolding telling tellVerdict
+  tell-wrong k c d = rw (h, ne-eqb k (s .readings + 1) d) (go (isEnded (s .phase)))
+    where
+      go : (b : Bool) → toldBy (check (not b) SearchEnded (Refused WrongNumber)) s c ≡ record { verdict = Refused (cond b SearchEnded WrongNumber); search = s }
+      go true = refl
+      go false = refl
+
+  -- best is refused as 11 before the first reading
+  best-none : s .readings ≡ 0 → showing s .verdict ≡ Refused NoReading
+  unfolding showing bestVerdict
+  best-none e = rw (h, eq-eqb (s .readings) 0 e)
+
+-- a tell that joins has the next number
+joins-number : (o : Search) (h : List ℕ) (k c : ℕ) → joins o h k c ≡ true → eqb k (length h + 1) ≡ true
+joins-number o h k c e = simp and-eq-true-iff at e .0 .1
+
+-- ---- one call more at the end of a list
+
+after-snoc : (s : Search) (cs : List Call) (c : Call) → after s (cs ++ c ∷ []) ≡ after1 (after s cs) c
+unfolding after
+after-snoc s [] c = refl
+after-snoc s (d ∷ cs) c = after-snoc (after1 s d) cs c
+
+history-snoc : (o : Search) (h : List ℕ) (cs : List Call) (c : Call) → historyFrom o h (cs ++ c ∷ []) ≡ history1 o (historyFrom o h cs) c
+unfolding historyFrom
+history-snoc o h [] c = refl
+history-snoc o h (d ∷ cs) c = history-snoc o (history1 o h d) cs c
+
+-- ---- every opening that is not refused, and every list of calls
+
+module _ (n : ℕ) (axes : List Axis) (rule : RuleChoice) (coefficients : Coefficients) (budget : ℕ) (accepted : opening n axes rule coefficients budget .verdict ≡ Accepted) where
+  -- the search as opened
+  abbrev pub openedSearch : Search
+  openedSearch = opening n axes rule coefficients budget .search
+
+  setup-given : openedSearch .setup ≡ fresh n axes rule coefficients budget .setup
+  setup-given = ap (λ s. s .setup) (opened-fresh n axes rule coefficients budget accepted)
+
+  -- what the calls have made of it, and their history
+  abbrev pub reached : List Call → Search
+  reached cs = after openedSearch cs
+
+  abbrev pub accepted-costs : List Call → List ℕ
+  accepted-costs cs = history openedSearch cs
+
+  claims : (cs : List Call) → Claims openedSearch (accepted-costs cs) (reached cs)
+  claims = claim n axes rule coefficients budget accepted
+
+  -- refusal 12 is never given
+  pub sound-always : (cs : List Call) → undamaged (reached cs) ≡ true
+  unfolding run Told
+  sound-always cs =
+      let b = opened-begun n axes rule coefficients budget accepted in
+      let f = all-follow openedSearch b cs [] tt in
+      rw (f .1) (run-undamaged openedSearch b (accepted-costs cs) (f .0))
+
+  pub never-12 : (cs : List Call)
+      → (asking (reached cs) .verdict ≡ Refused Damaged → ⊥) × ((k c : ℕ) → telling (reached cs) k c .verdict ≡ Refused Damaged → ⊥) × (showing (reached cs) .verdict ≡ Refused Damaged → ⊥)
+  never-12 cs = let h = sound-always cs in (ask-not-12 (reached cs) h, tell-not-12 (reached cs) h, best-not-12 (reached cs) h)
+
+  -- tell accepts exactly when the history says so
+  pub tell-exactly : (cs : List Call) (k c : ℕ) → (telling (reached cs) k c .verdict ≡ Accepted) ↔ (joins openedSearch (accepted-costs cs) k c ≡ true)
+  tell-exactly cs = claims cs .accepts
+
+  -- ---- the controller: every trial lies within the limits that the opening gave
+
+  abbrev pub Permitted : List Float → Type 0
+  Permitted x = (a : ℕ) → a < n → ((getD axes a noAxis .lo ≤ᶠ getD x a nan) ≡ true) × ((getD x a nan ≤ᶠ getD axes a noAxis .hi) ≡ true)
+
+  permitted : (x : List Float) → Within (openedSearch .setup) x → Permitted x
+  unfolding fresh
+  permitted x w a l =
+      let given : Within (fresh n axes rule coefficients budget .setup) x = subst (λ (t : Setup). Within t x) setup-given w in
+      let e = opened-axis n axes rule coefficients budget (opened-verdict n axes rule coefficients budget accepted) a l in
+      subst (λ (y : Axis). ((y .lo ≤ᶠ getD x a nan) ≡ true) × ((getD x a nan ≤ᶠ y .hi) ≡ true)) e (given a l)
+
+  pub controller-asked : (cs : List Call) → isEnded (reached cs .phase) ≡ false → (asking (reached cs) .verdict ≡ Accepted) × Permitted (asking (reached cs) .point)
+  controller-asked cs e = (claims cs .asks e .0, permitted (asking (reached cs) .point) (claims cs .withinAsked e))
+
+  pub controller-told : (cs : List Call) (k : ℕ) → k < length (accepted-costs cs) → Permitted (reading openedSearch (accepted-costs cs) k .point)
+  controller-told cs k l = permitted (reading openedSearch (accepted-costs cs) k .point) (claims cs .withinTold k l)
+
+  -- ---- the camera: a number told twice, late or early is refused, and the search stays
+
+  -- the answer to a tell whose number is not the next
+  abbrev pub Unmoved : Search → ℕ → ℕ → Type 0
+  Unmoved s k c = telling s k c ≡ record { verdict = Refused (cond (isEnded (s .phase)) SearchEnded WrongNumber); search = s }
+
+  pub camera-wrong : (cs : List Call) (k c : ℕ) → (k ≡ length (accepted-costs cs) + 1 → ⊥) → Unmoved (reached cs) k c
+  camera-wrong cs k c d = tell-wrong (reached cs) (sound-always cs) k c (λ e. d (e ∙ ap (λ (m : ℕ). m + 1) (claims cs .readings)))
+
+  pub camera-twice : (cs : List Call) (k c d : ℕ) → telling (reached cs) k c .verdict ≡ Accepted → Unmoved (telling (reached cs) k c .search) k d
+  camera-twice cs k c d e =
+      let more = cs ++ tell k c ∷ [] in
+      let h = accepted-costs cs in
+      let j = claims cs .accepts k c .0 e in
+      let costs : accepted-costs more ≡ h ++ c ∷ [] = history-snoc openedSearch [] cs (tell k c) ∙ rw j in
+      let number : k ≡ length h + 1 = eqb-true k (length h + 1) (joins-number openedSearch h k c j) in
+      let late : k ≡ length (accepted-costs more) + 1 → ⊥ = λ q. omega (arith, rw (costs, length-append h (c ∷ [])) at q) in
+      rw (after-snoc openedSearch cs (tell k c)) at (camera-wrong more k d late)
+
+  -- ---- the panel: best answers a reading that no accepted reading beats
+
+  pub panel-best : (cs : List Call) → 0 < length (accepted-costs cs)
+      → (showing (reached cs) .verdict ≡ Accepted)
+      × ((k : ℕ) × (k < length (accepted-costs cs)) × (showing (reached cs) .reading ≡ reading openedSearch (accepted-costs cs) k))
+      × ((j : ℕ) → j < length (accepted-costs cs) → showing (reached cs) .reading .cost ≤ reading openedSearch (accepted-costs cs) j .cost)
+  panel-best cs l = let b = claims cs .best l in (b .2, (b .0, b .1 .told, b .3), λ j m. rw (b .3) (b .1 .least j m))
+
+  pub panel-none : (cs : List Call) → length (accepted-costs cs) ≡ 0 → showing (reached cs) .verdict ≡ Refused NoReading
+  panel-none cs e = best-none (reached cs) (sound-always cs) (claims cs .readings ∙ e)
+
+  -- ---- the schedule: the readings equation, from the first reading on
+
+  pub schedule : (cs : List Call) → let s = reached cs in 1 ≤ s .readings
+      → s .readings ≡ 1 + n * s .counts .builds + s .counts .reflections + 2 * (s .counts .expansions + s .counts .contractions) + (n + 2) * s .counts .shrinks + s .counts .probes + s .counts .unfinished
+  unfolding fresh
+  schedule cs l =
+      let given : openedSearch .setup .n ≡ n = ap (λ (t : Setup). t .n) setup-given in
+      rw given at (claims cs .equation (omega (arith, claims cs .readings)))
