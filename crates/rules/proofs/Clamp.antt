@@ -1,11 +1,12 @@
 -- The clamp, by its own comparisons. Assumes nothing.
 use mathlib.Core.Path.{_≡_, refl, sym}
-use mathlib.Core.Bool.{Bool, true, false, cond}
+use mathlib.Core.Bool.{true, false}
 use Prim.Native.Nat.{_*_}
 use borrow.Author.Tests.{le-ltb, eq-eqb}
 use native.Mathlib.Omega.{arith}
 use lib.Ieee.{Float, nan, inf, fin, up, down, le, isNan}
 use Rattle.rules.specs.Binary64.{clamp, _≤ᶠ_, _<ᶠ_}
+use Rattle.rules.proofs.Tests.{cond-elim}
 
 -- ---- the test ≤
 
@@ -51,12 +52,7 @@ le-right x y h = le-self y (number-right x y h)
 
 -- what holds of lo, of hi and of a v between them holds of the clamp
 pub clamp-elim : (P : Float → Type 0) (lo hi v : Float) → P lo → P hi → ((lo ≤ᶠ v) ≡ true → (v ≤ᶠ hi) ≡ true → P v) → P (clamp lo hi v)
-clamp-elim P lo hi v l h m = go (lo ≤ᶠ v) (v ≤ᶠ hi) m
-  where
-    go : (b c : Bool) → (b ≡ true → c ≡ true → P v) → P (cond b (cond c v hi) lo)
-    go true true k = k refl refl
-    go true false k = h
-    go false c k = l
+clamp-elim P lo hi v l h m = cond-elim P (lo ≤ᶠ v) (λ e. cond-elim P (v ≤ᶠ hi) (m e) (λ d. h)) (λ e. l)
 
 -- the clamp is at least lo
 pub clamp-low : (lo hi v : Float) → (lo ≤ᶠ hi) ≡ true → (lo ≤ᶠ clamp lo hi v) ≡ true

@@ -6,20 +6,20 @@ use Prim.Native.Nat.{ℕ, zero, suc, _+_, _-_, _*_, _≤_, _<_}
 use native.Mathlib.Omega.{arith}
 use native.Mathlib.Nat.{not-suc-le-zero}
 use lib.ListN.{length, getD, take, drop}
-use lib.Dec.{eqb}
 use lib.Ieee.{Float}
-use borrow.Author.Tests.{eqb-true, eqb-false}
 use Rattle.rules.specs.Simplex.{pointOf, pack, unpack, insert}
-use Rattle.rules.specs.Accept.{Piece, build, shrink, opened, bestAfter, noted, pick, finished, waiting, withGathered, firstOpen, builtOn, shrunkOn, shrunkPoints}
-use Rattle.rules.specs.Tally.{countOf, pieceIf}
+use Rattle.rules.specs.Accept.{Piece, build, shrink, opened, bestAfter, noted, isLast, finished, waiting, withGathered, firstOpen, builtOn, shrunkOn, shrunkPoints}
+use Rattle.rules.specs.Tally.{countOf, finishes}
 use Rattle.rules.specs.declared.Vertex.{Vertex}
 use Rattle.rules.specs.declared.Search.{Search}
 use Rattle.rules.specs.declared.Counts.{Counts}
 use Rattle.rules.specs.declared.Phase.the-variants.{Building, Shrinking}
-use Rattle.rules.proofs.Order.{length-insert, ordered-insert, first-insert}
+use Rattle.rules.proofs.Tests.{tests, pick-elim}
+use Rattle.rules.proofs.Order.{length-insert, ordered-insert}
 use Rattle.rules.proofs.Invariant.{Known, Leads, Noted, Gathers, AtBuild, AtShrink, Inv}
-use Rattle.rules.proofs.Noting.{_▹_, known-more, known-new, bestAfter-some}
-use Rattle.rules.proofs.Stepping.{Stepped, by-test, gathered-are, finish}
+use Rattle.rules.proofs.Noting.{_▹_, known-more, known-new, leads-on}
+use Rattle.rules.proofs.Stepping.{Stepped, pieces-are, gathered-are, finish}
+use Rattle.rules.proofs.Finishing.{build-last, build-more, shrink-last, shrink-more}
 use Rattle.rules.proofs.Moving.{known-insert, goes-on, begins}
 
 -- a list with no element
@@ -27,11 +27,7 @@ empty : (vs : List Vertex) → length vs ≡ 0 → vs ≡ []
 empty [] e = refl
 empty (v ∷ vs) e = let z : suc (length vs) ≡ 0 = e in absurd (omega arith)
 
--- after a trial other than the first, the first of the gathered vertices is still the best
-leads-on : (gs : List Vertex) (v b : Vertex) (k : ℕ) → 1 ≤ k → Leads gs b → Leads (insert v gs) (bestAfter k v b)
-leads-on gs v b k l h = rw (bestAfter-some k v b l) (first-insert v b gs h)
-
--- after the first trial too
+-- the first of the gathered vertices is the best, after the first trial too
 leads-build : (i : ℕ) (gs : List Vertex) (v b : Vertex) (k : ℕ) → length gs ≡ i → (1 ≤ i → Leads gs b) → (1 ≤ i → 1 ≤ k) → (i ≡ 0 → k ≡ 0) → Leads (insert v gs) (bestAfter k v b)
 unfolding insert
 leads-build zero gs v b k e h l z = rw (empty gs e, z refl)
@@ -100,16 +96,13 @@ module _ (rs : List Vertex) (v : Vertex) (s : Search) (inv : Inv rs s) (after : 
         (goes-on rs v s inv after (Building (i + 1)) (insert v (inv .gs)) (pack (insert v (inv .gs))) gathers-on (h .some (omega arith))
         (build-next 1 (omega (arith, h .unfinished)) l) tt)
 
-    pub build-step : Stepped (rs ▹ v) (pieceIf (eqb i (s .setup .n)) build) 0 s (builtOn i v (noted v s))
+    pub build-step : Stepped (rs ▹ v) (finishes (Building i) s (v .cost)) 0 s (builtOn i v (noted v s))
     unfolding builtOn
     build-step =
-        let gs = insert v (inv .gs) in
-        let u = noted v s in
         rw (gathered i (h .many))
-        (by-test (λ (b : Bool). Stepped (rs ▹ v) (pieceIf b build) 0 s (pick b (finished build [] [] gs u) (waiting (Building (i + 1)) (firstOpen (s .counts .builds) i) (withGathered gs u))))
-        (eqb i (s .setup .n))
-        (λ e. build-ends (eqb-true i (s .setup .n) e))
-        (λ e. build-on i refl (let d = eqb-false i (s .setup .n) e in omega (arith, h .high, d))))
+        (pick-elim (Stepped (rs ▹ v) (finishes (Building i) s (v .cost)) 0 s) (isLast i s)
+        (λ e. pieces-are (build-last s (v .cost) i (omega (arith, tests))) (build-ends (omega (arith, tests))))
+        (λ e. pieces-are (build-more s (v .cost) i (omega (arith, tests))) (build-on i refl (omega (arith, tests, h .high)))))
 
   -- ---- a shrink
 
@@ -136,14 +129,12 @@ module _ (rs : List Vertex) (v : Vertex) (s : Search) (inv : Inv rs s) (after : 
           some = omega arith;
         }
 
-    pub shrink-step : Stepped (rs ▹ v) (pieceIf (eqb j (s .setup .n)) shrink) 0 s (shrunkOn j v (noted v s))
+    pub shrink-step : Stepped (rs ▹ v) (finishes (Shrinking j) s (v .cost)) 0 s (shrunkOn j v (noted v s))
     unfolding shrunkOn
     shrink-step =
-        let gs = insert v (inv .gs) in
-        let u = noted v s in
-        let old = map pointOf (drop 1 (unpack (s .setup .n + 1) (s .standing))) in
         rw (gathered j (h .many))
-        (by-test (λ (b : Bool). Stepped (rs ▹ v) (pieceIf b shrink) 0 s (pick b (finished shrink old (shrunkPoints u) gs u) (waiting (Shrinking (j + 1)) 1 (withGathered gs u))))
-        (eqb j (s .setup .n))
-        (λ e. shrink-ends old (shrunkPoints u) (eqb-true j (s .setup .n) e))
-        (λ e. goes-on rs v s inv after (Shrinking (j + 1)) gs (pack gs) gathers-on (h .some) (shrink-next (let d = eqb-false j (s .setup .n) e in omega (arith, h .high, d))) tt))
+        (pick-elim (Stepped (rs ▹ v) (finishes (Shrinking j) s (v .cost)) 0 s) (isLast j s)
+        (λ e. pieces-are (shrink-last s (v .cost) j (omega (arith, tests))) (shrink-ends _ _ (omega (arith, tests))))
+        (λ e.
+        pieces-are (shrink-more s (v .cost) j (omega (arith, tests)))
+        (goes-on rs v s inv after _ (insert v (inv .gs)) _ gathers-on (h .some) (shrink-next (omega (arith, tests, h .high))) tt)))

@@ -9,6 +9,7 @@ use Rattle.rules.specs.Simplex.{point, blank, pack, costOf, Ordered}
 use Rattle.rules.specs.Trial.{reflected}
 use Rattle.rules.specs.Calls.{maxCost, isEnded}
 use Rattle.rules.specs.History.{EarliestLeast}
+use Rattle.rules.specs.Tally.{readingsBy}
 use Rattle.rules.specs.declared.Vertex.{Vertex}
 use Rattle.rules.specs.declared.Simplex.{Simplex}
 use Rattle.rules.specs.declared.Counts.{Counts}
@@ -60,13 +61,9 @@ pub record Gathers (rs gs : List Vertex) (gathered : Simplex) : Type 0 where
   pub are : gathered ≡ pack gs
   pub known : Known gs rs
 
--- what the counts add up to, but for the very first reading
-abbrev pub spentOn : ℕ → Counts → ℕ
-spentOn n c = n * c .builds + c .reflections + 2 * (c .expansions + c .contractions) + (n + 2) * c .shrinks + c .probes + c .unfinished
-
 -- the readings equation, read as 1 ≡ 1 while there is no reading
 abbrev pub Equation : ℕ → ℕ → Counts → Type 0
-Equation n readings c = readings + (1 - readings) ≡ 1 + spentOn n c
+Equation n readings c = readings + (1 - readings) ≡ readingsBy n c
 
 -- between two pieces, or in one whose readings are held by the phase: a simplex stands, nothing is gathered, k readings are open
 pub record Idle (k : ℕ) (gs : List Vertex) (readings : ℕ) (c : Counts) : Type 0 where

@@ -1,29 +1,29 @@
 -- A reading of an iteration: reflected, expanded or contracted. Assumes nothing.
 use mathlib.Core.Path.{_≡_, refl, sym, ap, _∙_, subst}
-use mathlib.Core.Bool.{Bool, true, false, not, _&&_}
+use mathlib.Core.Bool.{Bool, true, false}
 use mathlib.Core.List.{List, [], _∷_, List·Memᴰ, Memᴰ·cast, Memᴰ·append-left, List·Memᴰ·eq-of-singleton}
 use Prim.Native.Nat.{ℕ, zero, suc, _+_, _-_, _*_, _≤_, _<_}
 use native.Mathlib.Omega.{arith}
 use native.Mathlib.Nat.{not-suc-le-zero}
 use lib.ListN.{length, getD, take, length-map}
-use lib.Dec.{leb, ltb}
-use borrow.Author.Tests.{leb-true, leb-false, ltb-true, ltb-false, lt-ltb, le-ltb}
 use Rattle.rules.specs.Simplex.{point, blank, place, pack, costOf, Ordered}
 use Rattle.rules.specs.Trial.{reflected}
-use Rattle.rules.specs.Accept.{reflection, expansion, contraction, opened, better, bestAfter, noted, pick, taken, waiting, f1, fn, fw, wins, reflectedVertex, reflectedOn, expandedOn, contractedOn, shrinking}
+use Rattle.rules.specs.Accept.{reflection, expansion, contraction, opened, bestAfter, noted, taken, waiting, f1, fn, row1, row2, row3, winsExpanded, wins, reflectedVertex, reflectedOn, expandedOn, contractedOn, shrinking}
 use Rattle.rules.specs.Calls.{maxCost}
-use Rattle.rules.specs.Tally.{countOf, pieceIf}
+use Rattle.rules.specs.Tally.{countOf, finishes}
 use Rattle.rules.specs.declared.Vertex.{Vertex}
 use Rattle.rules.specs.declared.Search.{Search}
 use Rattle.rules.specs.declared.Side.{Side}
 use Rattle.rules.specs.declared.Side.the-variants.{Outside, Inside}
-use Rattle.rules.specs.declared.Phase.the-variants.{Expanding, Contracting, Shrinking}
+use Rattle.rules.specs.declared.Phase.the-variants.{Reflecting, Expanding, Contracting}
+use Rattle.rules.proofs.Tests.{tests, better-elim, pick-elim}
 use Rattle.rules.proofs.Lists.{mem-getD}
-use Rattle.rules.proofs.Order.{ordered-at}
+use Rattle.rules.proofs.Order.{first-lower, ordered-at}
 use Rattle.rules.proofs.Places.{place-pack, cost-pack}
 use Rattle.rules.proofs.Invariant.{Known, Leads, Noted, Gathers, Idle, Beside, AtExpand, AtContract, AtShrink, Inv}
-use Rattle.rules.proofs.Noting.{_▹_, known-more, known-new, bestAfter-some}
-use Rattle.rules.proofs.Stepping.{Stepped, by-test, whole}
+use Rattle.rules.proofs.Noting.{_▹_, known-more, known-new, best-falls, best-stays, leads-on}
+use Rattle.rules.proofs.Finishing.{row1-more, row2-ends, later-rows, contract-ends, contract-more}
+use Rattle.rules.proofs.Stepping.{Stepped, pieces-are, whole}
 use Rattle.rules.proofs.Moving.{takes, goes-on}
 
 -- ---- who is first
@@ -35,14 +35,6 @@ leads-at (v ∷ vs) b h = cc
 leads-self : (vs : List Vertex) → 1 ≤ length vs → Leads vs (getD vs 0 blank)
 leads-self [] l = absurd (not-suc-le-zero l)
 leads-self (v ∷ vs) l = refl
-
--- a reading that is not lower leaves the best
-pub best-stays : (k : ℕ) (v b : Vertex) → 1 ≤ k → b .cost ≤ v .cost → bestAfter k v b ≡ b
-best-stays k v b l h = bestAfter-some k v b l ∙ rw (le-ltb (v .cost) (b .cost) h)
-
--- a lower one is the best
-pub best-falls : (k : ℕ) (v b : Vertex) → 1 ≤ k → v .cost < b .cost → bestAfter k v b ≡ v
-best-falls k v b l h = bestAfter-some k v b l ∙ rw (lt-ltb (v .cost) (b .cost) h)
 
 module _ (rs : List Vertex) (v : Vertex) (s : Search) (inv : Inv rs s) (after : Noted (rs ▹ v) (s .setup) (s .readings + 1) (bestAfter (s .readings) v (s .best))) where
   -- the costs that the search carries are those of its vertices
@@ -82,8 +74,9 @@ module _ (rs : List Vertex) (v : Vertex) (s : Search) (inv : Inv rs s) (after : 
     takes-reflected : f1 s ≤ v .cost → v .cost < fn s → Stepped (rs ▹ v) (reflection ∷ []) 0 s (taken reflection v (noted v s))
     unfolding countOf
     takes-reflected high low =
-        takes rs v s inv after (idle .stood) reflection v (s .best) (known-new rs v) leads (sym (bestAfter-some (s .readings) v (s .best) (idle .some)))
-        (omega (arith, rw (carries (s .setup .n - 1)) at low, in-place (s .setup .n - 1) (idle .stood) (omega arith))) (idle .some) (omega (arith, idle .unfinished)) refl refl
+        let l : v .cost < getD (inv .vs) (s .setup .n - 1) blank .cost = rw (carries (s .setup .n - 1)) at low in
+        takes rs v s inv after (idle .stood) reflection v (s .best) (known-new rs v) leads (λ us. leads-on us v (s .best) (s .readings) (idle .some))
+        (omega (arith, in-place (s .setup .n - 1) (idle .stood) (omega arith))) (idle .some) (omega (arith, idle .unfinished)) refl refl
 
     goes-contracting : (side : Side) → f1 s ≤ v .cost → Beside side (v .cost) (getD (inv .vs) (s .setup .n) blank .cost) → Stepped (rs ▹ v) [] 0 s (waiting (Contracting side (v .cost)) 1 (noted v s))
     goes-contracting side high beside =
@@ -93,24 +86,21 @@ module _ (rs : List Vertex) (v : Vertex) (s : Search) (inv : Inv rs s) (after : 
         goes-on rs v s inv after (Contracting side (v .cost)) (inv .gs) (s .gathered) gathers-more (idle .some)
         (idle-on idle, record { leads = rw e leads; higher = rw e h; low = low; beside = beside }) tt
 
-    pub reflect-step : v .point ≡ point (s .setup .n) (reflected (s .setup) (s .standing .points))
-        → Stepped (rs ▹ v) (pieceIf (not (ltb (v .cost) (f1 s)) && ltb (v .cost) (fn s)) reflection) 0 s (reflectedOn v (noted v s))
+    pub reflect-step : v .point ≡ point (s .setup .n) (reflected (s .setup) (s .standing .points)) → Stepped (rs ▹ v) (finishes Reflecting s (v .cost)) 0 s (reflectedOn v (noted v s))
     unfolding reflectedOn
     reflect-step shape =
         let f = v .cost in
-        let u = noted v s in
-        let outside = waiting (Contracting Outside f) 1 u in
-        let inside = waiting (Contracting Inside f) 1 u in
-        by-test (λ (b : Bool). Stepped (rs ▹ v) (pieceIf (not b && ltb f (fn s)) reflection) 0 s (pick b (waiting (Expanding f) 1 u) (pick (ltb f (fn s)) (taken reflection v u) (pick (ltb f (fw s)) outside inside)))) (ltb f (f1 s))
-        (λ e. goes-expanding shape (ltb-true f (f1 s) e))
-        (λ e.
-        let high = ltb-false f (f1 s) e in
-        by-test (λ (b : Bool). Stepped (rs ▹ v) (pieceIf b reflection) 0 s (pick b (taken reflection v u) (pick (ltb f (fw s)) outside inside))) (ltb f (fn s))
-        (λ d. takes-reflected high (ltb-true f (fn s) d))
-        (λ d.
-        by-test (λ (b : Bool). Stepped (rs ▹ v) [] 0 s (pick b outside inside)) (ltb f (fw s))
-        (λ c. goes-contracting Outside high (rw (carries (s .setup .n)) at (ltb-true f (fw s) c)))
-        (λ c. goes-contracting Inside high tt)))
+        let P = Stepped (rs ▹ v) (finishes Reflecting s f) 0 s in
+        pick-elim P (row1 f s)
+        (λ a. pieces-are (row1-more s f (omega (arith, tests))) (goes-expanding shape (omega (arith, tests))))
+        (λ a.
+        pick-elim P (row2 f s)
+        (λ b. pieces-are (row2-ends s f (omega (arith, tests)) (omega (arith, tests))) (takes-reflected (omega (arith, tests)) (omega (arith, tests))))
+        (λ b.
+        pieces-are (later-rows s f (omega (arith, tests)) (omega (arith, tests)))
+        (pick-elim (Stepped (rs ▹ v) [] 0 s) (row3 f s)
+        (λ c. goes-contracting Outside (omega (arith, tests)) (omega (arith, tests, carries (s .setup .n))))
+        (λ c. goes-contracting Inside (omega (arith, tests)) tt))))
 
   -- ---- the expanded point
 
@@ -120,9 +110,9 @@ module _ (rs : List Vertex) (v : Vertex) (s : Search) (inv : Inv rs s) (after : 
     unfolding countOf
     takes-lower u mem low best =
         let x = getD (inv .vs) 0 blank in
-        let first : ltb (u .cost) (x .cost) ≡ true = lt-ltb (u .cost) (x .cost) (omega (arith, h .lower)) in
-        takes rs v s inv after (idle .stood) expansion u x mem (leads-self (inv .vs) (omega (arith, inv .stands .all (idle .stood)))) (rw first (sym best))
-        (omega (arith, h .lower, in-place 0 (idle .stood) (omega arith))) (idle .some) (omega (arith, idle .unfinished)) refl refl
+        let first : u .cost < x .cost = omega (arith, h .lower) in
+        takes rs v s inv after (idle .stood) expansion u x mem (leads-self (inv .vs) (omega (arith, inv .stands .all (idle .stood)))) (λ us l. rw best (first-lower u x us l first))
+        (omega (arith, in-place 0 (idle .stood) (omega arith))) (idle .some) (omega (arith, idle .unfinished)) refl refl
 
     reflected-cost : s .best .cost ≡ fr
     reflected-cost = ap costOf (h .reflects)
@@ -131,11 +121,11 @@ module _ (rs : List Vertex) (v : Vertex) (s : Search) (inv : Inv rs s) (after : 
     unfolding expandedOn
     expand-step =
         let r = reflectedVertex fr s in
-        by-test (λ (b : Bool). Stepped (rs ▹ v) (expansion ∷ []) 0 s (taken expansion (better b v r) (noted v s))) (ltb (v .cost) fr)
-        (λ e. let l = ltb-true (v .cost) fr e in takes-lower v (known-new rs v) (omega arith) (best-falls (s .readings) v (s .best) (idle .some) (omega (arith, reflected-cost))))
+        better-elim (λ (u : Vertex). Stepped (rs ▹ v) (expansion ∷ []) 0 s (taken expansion u (noted v s))) (winsExpanded (v .cost) fr)
+        (λ e. takes-lower v (known-new rs v) (omega (arith, tests)) (best-falls (s .readings) v (s .best) (idle .some) (omega (arith, tests, reflected-cost))))
         (λ e.
-        let l = ltb-false (v .cost) fr e in
-        takes-lower r (Memᴰ·cast (sym (h .reflects)) (best-known (idle .some))) (omega arith) (best-stays (s .readings) v (s .best) (idle .some) (omega (arith, reflected-cost)) ∙ h .reflects))
+        takes-lower r (Memᴰ·cast (sym (h .reflects)) (best-known (idle .some))) (omega arith)
+        (best-stays (s .readings) v (s .best) (idle .some) (omega (arith, tests, reflected-cost)) ∙ h .reflects))
 
   -- ---- the contracted point
 
@@ -143,7 +133,7 @@ module _ (rs : List Vertex) (v : Vertex) (s : Search) (inv : Inv rs s) (after : 
     takes-contracted : (side : Side) → AtContract side fr (s .setup .n) (inv .vs) (s .best) → v .cost < getD (inv .vs) (s .setup .n) blank .cost → Stepped (rs ▹ v) (contraction ∷ []) 0 s (taken contraction v (noted v s))
     unfolding countOf
     takes-contracted side h low =
-        takes rs v s inv after (idle .stood) contraction v (s .best) (known-new rs v) (h .leads) (sym (bestAfter-some (s .readings) v (s .best) (idle .some))) low (idle .some) (omega (arith, idle .unfinished)) refl refl
+        takes rs v s inv after (idle .stood) contraction v (s .best) (known-new rs v) (h .leads) (λ us. leads-on us v (s .best) (s .readings) (idle .some)) low (idle .some) (omega (arith, idle .unfinished)) refl refl
 
     -- x1, which a shrink keeps, is the best
     kept-best : (side : Side) → AtContract side fr (s .setup .n) (inv .vs) (s .best) → place (s .standing) 0 ≡ s .best
@@ -156,20 +146,19 @@ module _ (rs : List Vertex) (v : Vertex) (s : Search) (inv : Inv rs s) (after : 
     goes-shrinking side h high =
         let known : Known (s .best ∷ []) (rs ▹ v) = λ w m. Memᴰ·cast (List·Memᴰ·eq-of-singleton m) (best-known (idle .some)) in
         let e = best-stays (s .readings) v (s .best) (idle .some) high in
-        let one : AtShrink 1 (s .setup .n) (s .best ∷ []) (s .readings + 1) (opened 1 (s .counts)) (bestAfter (s .readings) v (s .best)) =
-        record { low = omega arith; high = after .sane .atLeast; many = refl; sorted = (tt, tt); leads = rw e; unfinished = omega (arith, idle .unfinished); stood = idle .stood; some = omega arith } in
-        goes-on rs v s inv after (Shrinking 1) (s .best ∷ []) (pack (place (s .standing) 0 ∷ [])) (record { are = ap (λ (x : Vertex). pack (x ∷ [])) (kept-best side h); known = known }) (idle .some) one tt
+        goes-on rs v s inv after _ (s .best ∷ []) _ (record { are = ap (λ (x : Vertex). pack (x ∷ [])) (kept-best side h); known = known }) (idle .some)
+        (record { low = omega arith; high = after .sane .atLeast; many = refl; sorted = (tt, tt); leads = rw e; unfinished = omega (arith, idle .unfinished); stood = idle .stood; some = omega arith }) tt
 
-    pub contract-step : (side : Side) → AtContract side fr (s .setup .n) (inv .vs) (s .best) → Stepped (rs ▹ v) (pieceIf (wins side fr (v .cost) s) contraction) 0 s (contractedOn side fr v (noted v s))
+    -- an outside point that is not taken is higher than r, an inside one not lower than the worst
+    pub contract-step : (side : Side) → AtContract side fr (s .setup .n) (inv .vs) (s .best) → Stepped (rs ▹ v) (finishes (Contracting side fr) s (v .cost)) 0 s (contractedOn side fr v (noted v s))
     unfolding contractedOn
     contract-step Outside h =
-        by-test (λ (b : Bool). Stepped (rs ▹ v) (pieceIf b contraction) 0 s (pick b (taken contraction v (noted v s)) (shrinking (noted v s)))) (leb (v .cost) fr)
-        (λ e. let l = leb-true (v .cost) fr e in takes-contracted Outside h (omega (arith, h .beside)))
-        (λ e. let l = leb-false (v .cost) fr e in goes-shrinking Outside h (omega (arith, h .higher)))
+        pick-elim (Stepped (rs ▹ v) (finishes (Contracting Outside fr) s (v .cost)) 0 s) (wins Outside fr (v .cost) s)
+        (λ e. pieces-are (contract-ends s (v .cost) Outside fr e) (takes-contracted Outside h (omega (arith, tests, h .beside))))
+        (λ e. pieces-are (contract-more s (v .cost) Outside fr e) (goes-shrinking Outside h (omega (arith, tests, h .higher))))
     contract-step Inside h =
-        by-test (λ (b : Bool). Stepped (rs ▹ v) (pieceIf b contraction) 0 s (pick b (taken contraction v (noted v s)) (shrinking (noted v s)))) (ltb (v .cost) (fw s))
-        (λ e. takes-contracted Inside h (rw (carries (s .setup .n)) at (ltb-true (v .cost) (fw s) e)))
-        (λ e.
-        let l : getD (inv .vs) (s .setup .n) blank .cost ≤ v .cost = rw (carries (s .setup .n)) at (ltb-false (v .cost) (fw s) e) in
+        let w = carries (s .setup .n) in
         let q : getD (inv .vs) 0 blank .cost ≡ s .best .cost = ap costOf (leads-at (inv .vs) (s .best) (h .leads)) in
-        goes-shrinking Inside h (omega (arith, in-place 0 (idle .stood) (omega arith))))
+        pick-elim (Stepped (rs ▹ v) (finishes (Contracting Inside fr) s (v .cost)) 0 s) (wins Inside fr (v .cost) s)
+        (λ e. pieces-are (contract-ends s (v .cost) Inside fr e) (takes-contracted Inside h (omega (arith, tests))))
+        (λ e. pieces-are (contract-more s (v .cost) Inside fr e) (goes-shrinking Inside h (omega (arith, tests, in-place 0 (idle .stood) (omega arith)))))

@@ -1,4 +1,5 @@
 pub mod Examples
+pub mod Tests
 pub mod Lists
 pub mod Order
 pub mod Places
@@ -7,10 +8,12 @@ pub mod Openings
 pub mod Histories
 pub mod Invariant
 pub mod Noting
+pub mod Finishing
 pub mod Stepping
 pub mod Moving
 pub mod Gathering
 pub mod Iterating
+pub mod Probing
 pub mod Accepting
 pub mod Running
 pub mod Sound

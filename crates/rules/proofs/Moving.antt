@@ -1,6 +1,6 @@
 -- The two ways in which a reading can go: a point replaces the worst vertex, or the piece goes on. Assumes nothing.
 use mathlib.Core.Path.{_≡_, refl, sym, ap, _∙_, subst}
-use mathlib.Core.Bool.{Bool, true, false, cond, not, _&&_}
+use mathlib.Core.Bool.{Bool, true, false, cond}
 use mathlib.Core.List.{List, [], _∷_, map, List·Memᴰ, Memᴰ·cast}
 use mathlib.Core.Logic.{⊎-elim}
 use Prim.Native.Nat.{ℕ, zero, suc, _+_, _-_, _*_, _≤_, _<_}
@@ -8,13 +8,13 @@ use native.Mathlib.Omega.{arith}
 use native.Mathlib.Nat.{not-suc-le-zero}
 use lib.ListN.{length, getD, take}
 use lib.Seq.{take-all, length-take-le}
-use lib.Dec.{eqb, ltb}
+use lib.Dec.{eqb}
 use lib.Ieee.{Float}
 use borrow.Author.Tests.{ne-eqb}
 use Rattle.rules.specs.Simplex.{blank, pack, unpack, insert, costOf, Ordered}
 use Rattle.rules.specs.Stop.{total}
-use Rattle.rules.specs.Accept.{Piece, build, shrink, counted, opened, probedOnce, better, bestAfter, noted, taken}
-use Rattle.rules.specs.Tally.{countOf, isNone}
+use Rattle.rules.specs.Accept.{Piece, build, shrink, counted, opened, probedOnce, bestAfter, noted, taken}
+use Rattle.rules.specs.Tally.{countOf, isOpen}
 use Rattle.rules.specs.declared.Vertex.{Vertex}
 use Rattle.rules.specs.declared.Simplex.{Simplex}
 use Rattle.rules.specs.declared.Counts.{Counts}
@@ -22,7 +22,7 @@ use Rattle.rules.specs.declared.Setup.{Setup}
 use Rattle.rules.specs.declared.Search.{Search}
 use Rattle.rules.specs.declared.Phase.{Phase}
 use Rattle.rules.proofs.Lists.{mem-take}
-use Rattle.rules.proofs.Order.{length-insert, ordered-insert, first-insert, mem-insert, total-insert, total-take, ordered-take}
+use Rattle.rules.proofs.Order.{length-insert, ordered-insert, mem-insert, total-insert, total-take, ordered-take}
 use Rattle.rules.proofs.Places.{unpack-take}
 use Rattle.rules.proofs.Invariant.{Known, Leads, Noted, Stands, Gathers, Equation, At, Inv}
 use Rattle.rules.proofs.Noting.{_▹_, known-more}
@@ -61,18 +61,18 @@ module _ (rs : List Vertex) (v : Vertex) (s : Search) (inv : Inv rs s) (after : 
         let are = standing-are rs (inv .vs) (s .setup) (s .readings) (s .best) (s .counts .builds) (s .standing) (inv .noted) h in
         rw (are, total-insert costOf u (take (s .setup .n) (inv .vs)), total-take costOf (s .setup .n) (inv .vs) (h .all stood)) (omega arith)
 
-    -- u is taken: it is lower than the worst, and the better of u and the first is the best
-    pub takes : (p : Piece) (u x : Vertex) → List·Memᴰ u (rs ▹ v) → Leads (inv .vs) x → better (ltb (u .cost) (x .cost)) u x ≡ bestAfter (s .readings) v (s .best)
+    -- u is taken: it is lower than the worst, and with it among the vertices after x the best is first
+    pub takes : (p : Piece) (u x : Vertex) → List·Memᴰ u (rs ▹ v) → Leads (inv .vs) x → ((us : List Vertex) → Leads us x → Leads (insert u us) (bestAfter (s .readings) v (s .best)))
         → u .cost < getD (inv .vs) (s .setup .n) blank .cost → 1 ≤ s .readings → s .counts .unfinished + 1 ≡ readingsIn (s .setup .n) p
         → othersIn (p ∷ []) ≡ 1 → counted p (s .counts) .builds ≡ s .counts .builds
         → Stepped (rs ▹ v) (p ∷ []) 0 s (taken p u (noted v s))
     unfolding taken
-    takes p u x mem leads best low some unfinished one same =
+    takes p u x mem leads enters low some unfinished one same =
         let n = s .setup .n in
         let h = inv .stands in
         let us = take n (inv .vs) in
         let many : length (insert u us) ≡ n + 1 = length-insert u us ∙ rw (length-take-le n (inv .vs) (omega (arith, h .all stood))) (omega arith) in
-        let first : Leads (insert u us) (bestAfter (s .readings) v (s .best)) = rw (← best) (first-insert u x us (take-leads n (inv .vs) x (after .sane .atLeast) leads)) in
+        let first : Leads (insert u us) (bestAfter (s .readings) v (s .best)) = enters us (take-leads n (inv .vs) x (after .sane .atLeast) leads) in
         let known : Known (insert u us) (rs ▹ v) = known-insert us (rs ▹ v) u mem (λ w m. known-more (inv .vs) rs v (h .known) w (mem-take n (inv .vs) m)) in
         rw stay
         (finish rs v s p _ _ (insert u us) after many (ordered-insert u us (ordered-take n (inv .vs) (h .sorted))) known first (inv .equation) some unfinished (rw same stood)
@@ -86,7 +86,7 @@ module _ (rs : List Vertex) (v : Vertex) (s : Search) (inv : Inv rs s) (after : 
 
   goes : (probe : ℕ) (p : Phase) (gs : List Vertex) (gathered : Simplex) (center : List Float) (c : Counts) → Counted [] probe (s .counts) c → c .builds ≡ s .counts .builds
       → Gathers (rs ▹ v) gs gathered → Equation (s .setup .n) (s .readings + 1) c
-      → c .unfinished ≡ cond (isNone [] && not (eqb (s .readings) 0) && eqb probe 0) (s .counts .unfinished + 1) 0
+      → c .unfinished ≡ cond (isOpen [] probe (s .readings)) (s .counts .unfinished + 1) 0
       → At p (s .setup) (s .standing) (inv .vs) gs (s .readings + 1) c (bestAfter (s .readings) v (s .best)) → (probe ≡ 0 → Fresh p)
       → Stepped (rs ▹ v) [] probe s (ongoing p gathered center c)
   unfolding countOf
@@ -133,5 +133,4 @@ module _ (rs : List Vertex) (v : Vertex) (s : Search) (inv : Inv rs s) (after : 
       → Stepped (rs ▹ v) [] 1 s (ongoing p gathered center (probedOnce (s .counts)))
   unfolding countOf
   probes-on p gs gathered center gathers some closed here =
-      let e : eqb (s .readings) 0 ≡ false = ne-eqb (s .readings) 0 (λ q. omega arith) in
-      goes 1 p gs gathered center (probedOnce (s .counts)) (omega arith) refl gathers (omega (arith, inv .equation)) (rw (e, closed)) here (λ q. absurd (omega arith))
+      goes 1 p gs gathered center (probedOnce (s .counts)) (omega arith) refl gathers (omega (arith, inv .equation)) closed here (λ q. absurd (omega arith))

@@ -1,6 +1,5 @@
 -- One reading more: its number, and the earliest least of all. Assumes nothing.
 use mathlib.Core.Path.{_≡_, refl, sym, ap, _∙_, subst}
-use mathlib.Core.Bool.{Bool, true, false}
 use mathlib.Core.List.{List, [], _∷_, _++_, map, map-append, List·Memᴰ, List·Memᴰ·append-cases, List·Memᴰ·eq-of-singleton, Memᴰ·append-left, Memᴰ·append-right, List·Memᴰ·head}
 use mathlib.Core.Logic.{_⊎_, ⊎-elim}
 use native.Mathlib.Numerals.{add-one}
@@ -9,15 +8,15 @@ use native.Mathlib.Omega.{arith}
 use native.Mathlib.Nat.{not-suc-le-zero, le-of-suc-le-suc, eq-or-lt-of-le}
 use lib.ListN.{length, getD, length-append, length-map, List·getD-append, List·getD-map}
 use lib.Seq.{getD-append-seam}
-use lib.Dec.{ltb}
-use borrow.Author.Tests.{ltb-true, ltb-false}
-use Rattle.rules.specs.Simplex.{blank, costOf}
-use Rattle.rules.specs.Accept.{better, bestAfter}
+use Rattle.rules.specs.Simplex.{blank, costOf, insert}
+use Rattle.rules.specs.Accept.{replaces, bestAfter}
 use Rattle.rules.specs.Calls.{maxCost}
 use Rattle.rules.specs.History.{EarliestLeast}
 use Rattle.rules.specs.declared.Vertex.{Vertex}
 use Rattle.rules.specs.declared.Setup.{Setup}
-use Rattle.rules.proofs.Invariant.{Known, Fine, Best, Noted}
+use Rattle.rules.proofs.Tests.{tests, better-elim}
+use Rattle.rules.proofs.Order.{le-or-lt, first-lower, first-stays}
+use Rattle.rules.proofs.Invariant.{Known, Leads, Fine, Best, Noted}
 
 infixl 40 _▹_
 -- the readings, and a new one after them
@@ -30,10 +29,25 @@ known-more vs rs v h w m = Memᴰ·append-left (v ∷ []) (h w m)
 pub known-new : (rs : List Vertex) (v : Vertex) → List·Memᴰ v (rs ▹ v)
 known-new rs v = Memᴰ·append-right rs (List·Memᴰ·head refl)
 
--- after the first reading the new one replaces the best only where it is lower
-pub bestAfter-some : (k : ℕ) (v b : Vertex) → 1 ≤ k → bestAfter k v b ≡ better (ltb (v .cost) (b .cost)) v b
-bestAfter-some zero v b h = absurd (not-suc-le-zero h)
-bestAfter-some (suc k) v b h = refl
+-- ---- the best of the readings before and the new one
+
+-- a lower reading is the best
+pub best-falls : (k : ℕ) (v b : Vertex) → 1 ≤ k → v .cost < b .cost → bestAfter k v b ≡ v
+best-falls zero v b l h = absurd (not-suc-le-zero l)
+best-falls (suc k) v b l h = better-elim (λ (x : Vertex). x ≡ v) (replaces v b) (λ e. refl) (λ e. absurd (omega (arith, tests)))
+
+-- any other leaves the best
+pub best-stays : (k : ℕ) (v b : Vertex) → 1 ≤ k → b .cost ≤ v .cost → bestAfter k v b ≡ b
+best-stays zero v b l h = absurd (not-suc-le-zero l)
+best-stays (suc k) v b l h = better-elim (λ (x : Vertex). x ≡ b) (replaces v b) (λ e. absurd (omega (arith, tests))) (λ e. refl)
+
+-- so the best is first among vertices of which the best was first
+pub leads-on : (vs : List Vertex) (v b : Vertex) (k : ℕ) → 1 ≤ k → Leads vs b → Leads (insert v vs) (bestAfter k v b)
+leads-on vs v b k l h =
+    ⊎-elim
+    (λ g. rw (best-stays k v b l g) (first-stays v b vs h g))
+    (λ g. rw (best-falls k v b l g) (first-lower v b vs h g))
+    (le-or-lt (b .cost) (v .cost))
 
 -- ---- one cost more
 
@@ -50,7 +64,7 @@ longer : (h : List ℕ) (c : ℕ) → length h < length (h ++ c ∷ [])
 longer h c = simp length-append (omega arith)
 
 pub earliest-first : (c : ℕ) → EarliestLeast (c ∷ []) 0
-earliest-first c = record { told = omega arith; least = only; earliest = λ j l. absurd (not-suc-le-zero l) }
+earliest-first c = record { told = omega arith; least = only; earliest = λ j l. absurd (omega arith) }
   where
     only : (j : ℕ) → j < 1 → c ≤ getD (c ∷ []) j 0
     only zero l = omega arith
@@ -89,26 +103,32 @@ best-first : (rs : List Vertex) (v : Vertex) → length rs ≡ 0 → Best (rs �
 best-first [] v e = (0, earliest-first (v .cost), refl)
 best-first (r ∷ rs) v e = let z : suc (length rs) ≡ 0 = e in absurd (omega arith)
 
-best-more : (rs : List Vertex) (v b : Vertex) → Best rs b → (t : Bool) → ltb (v .cost) (b .cost) ≡ t → Best (rs ▹ v) (better t v b)
-best-more rs v b h true l =
-    let q : v .cost < getD (map costOf rs) (h .0) 0 = rw (cost-at rs (h .0) b (h .2)) (ltb-true (v .cost) (b .cost) l) in
-    (length (map costOf rs), rw (map-append costOf rs (v ∷ [])) (earliest-new (map costOf rs) (h .0) (v .cost) (h .1) q), rw (length-map rs costOf) (getD-append-seam rs v [] blank))
-best-more rs v b h false l =
-    let q : getD (map costOf rs) (h .0) 0 ≤ v .cost = rw (cost-at rs (h .0) b (h .2)) (ltb-false (v .cost) (b .cost) l) in
-    let k : h .0 < length rs = rw (length-map rs costOf) at (h .1 .told) in
-    (h .0, rw (map-append costOf rs (v ∷ [])) (earliest-keeps (map costOf rs) (h .0) (v .cost) (h .1) q), List·getD-append rs (v ∷ []) blank (h .0) k ∙ h .2)
+best-new : (rs : List Vertex) (v b : Vertex) → Best rs b → v .cost < b .cost → Best (rs ▹ v) v
+best-new rs v b h l =
+    let q : v .cost < getD (map costOf rs) (h .0) 0 = rw (cost-at rs (h .0) b (h .2)) l in (
+      length (map costOf rs),
+      rw (map-append costOf rs (v ∷ [])) (earliest-new (map costOf rs) (h .0) (v .cost) (h .1) q),
+      rw (length-map rs costOf) (getD-append-seam rs v [] blank),
+    )
+
+best-old : (rs : List Vertex) (v b : Vertex) → Best rs b → b .cost ≤ v .cost → Best (rs ▹ v) b
+best-old rs v b h l =
+    let q : getD (map costOf rs) (h .0) 0 ≤ v .cost = rw (cost-at rs (h .0) b (h .2)) l in
+    let k : h .0 < length rs = rw (length-map rs costOf) at (h .1 .told) in (
+      h .0,
+      rw (map-append costOf rs (v ∷ [])) (earliest-keeps (map costOf rs) (h .0) (v .cost) (h .1) q),
+      List·getD-append rs (v ∷ []) blank (h .0) k ∙ h .2,
+    )
 
 best-after : (rs : List Vertex) (v b : Vertex) (k : ℕ) → k ≡ length rs → (1 ≤ k → Best rs b) → Best (rs ▹ v) (bestAfter k v b)
 best-after rs v b zero e h = best-first rs v (sym e)
-best-after rs v b (suc k) e h = best-more rs v b (h (omega arith)) (ltb (v .cost) (b .cost)) refl
+best-after rs v b (suc k) e h =
+    let was = h (omega arith) in
+    better-elim (Best (rs ▹ v)) (replaces v b) (λ t. best-new rs v b was (omega (arith, tests))) (λ t. best-old rs v b was (omega (arith, tests)))
 
 low-after : (k : ℕ) (v b : Vertex) → v .cost ≤ maxCost → b .cost ≤ maxCost → bestAfter k v b .cost ≤ maxCost
 low-after zero v b h g = h
-low-after (suc k) v b h g = pick (ltb (v .cost) (b .cost))
-  where
-    pick : (t : Bool) → better t v b .cost ≤ maxCost
-    pick true = h
-    pick false = g
+low-after (suc k) v b h g = better-elim (λ (x : Vertex). x .cost ≤ maxCost) (replaces v b) (λ e. h) (λ e. g)
 
 -- a fine reading is noted, where the budget has room for it
 pub note : (rs : List Vertex) (t : Setup) (k : ℕ) (b v : Vertex) → Noted rs t k b → Fine (t .n) v → k < t .budget → Noted (rs ▹ v) t (k + 1) (bestAfter k v b)

@@ -8,13 +8,13 @@ use native.Mathlib.Nat.{not-suc-le-zero, le-of-suc-le-suc}
 use native.Mathlib.Decide.{decLe}
 use native.Mathlib.Omega.{arith}
 use lib.ListN.{length, getD, take, drop}
-use lib.Dec.{leb, ltb}
-use borrow.Author.Tests.{le-leb, lt-leb, leb-true, lt-ltb, le-ltb}
+use lib.Dec.{leb}
+use borrow.Author.Tests.{le-leb, lt-leb, leb-true}
 use Rattle.rules.specs.declared.Vertex.{Vertex}
-use Rattle.rules.specs.Simplex.{blank, insert, atMost, Ordered}
+use Rattle.rules.specs.Simplex.{blank, passes, insert, atMost, Ordered}
 use Rattle.rules.specs.Stop.{total}
-use Rattle.rules.specs.Accept.{better}
 use Rattle.rules.specs.Calls.{inOrder}
+use Rattle.rules.proofs.Tests.{tests, cond-elim}
 use Rattle.rules.proofs.Lists.{mem-getD}
 
 -- of two numbers the first is at most the second, or above it
@@ -30,12 +30,12 @@ le-or-lt a b = pick (decLe a b)
 -- it goes past a vertex of equal or lower cost
 pub insert-after : (v w : Vertex) (ws : List Vertex) → w .cost ≤ v .cost → insert v (w ∷ ws) ≡ w ∷ insert v ws
 unfolding insert
-insert-after v w ws h = rw (le-leb (w .cost) (v .cost) h)
+insert-after v w ws h = cond-elim (λ (l : List Vertex). l ≡ w ∷ insert v ws) (passes v w) (λ e. refl) (λ e. absurd (omega (arith, tests)))
 
 -- it stops before a vertex of higher cost
 pub insert-before : (v w : Vertex) (ws : List Vertex) → v .cost < w .cost → insert v (w ∷ ws) ≡ v ∷ w ∷ ws
 unfolding insert
-insert-before v w ws h = rw (lt-leb (w .cost) (v .cost) h)
+insert-before v w ws h = cond-elim (λ (l : List Vertex). l ≡ v ∷ w ∷ ws) (passes v w) (λ e. absurd (omega (arith, tests))) (λ e. refl)
 
 -- one vertex more
 pub length-insert : (v : Vertex) (ws : List Vertex) → length (insert v ws) ≡ suc (length ws)
@@ -67,16 +67,19 @@ ordered-insert v (x ∷ xs) h =
     (λ e. rw (insert-before v x xs e) (omega arith, h))
     (le-or-lt (x .cost) (v .cost))
 
--- the first vertex is replaced only by a lower one
-pub first-insert : (v b : Vertex) (vs : List Vertex) → take 1 vs ≡ b ∷ [] → take 1 (insert v vs) ≡ better (ltb (v .cost) (b .cost)) v b ∷ []
-first-insert v b [] e = cc
-first-insert v b (x ∷ xs) e =
+-- a lower newcomer is first
+pub first-lower : (v b : Vertex) (vs : List Vertex) → take 1 vs ≡ b ∷ [] → v .cost < b .cost → take 1 (insert v vs) ≡ v ∷ []
+first-lower v b [] e h = cc
+first-lower v b (x ∷ xs) e h =
     let same : x ≡ b = cc in
-    rw (← same)
-    (⊎-elim
-    (λ h. rw (insert-after v x xs h, le-ltb (v .cost) (x .cost) h))
-    (λ h. rw (insert-before v x xs h, lt-ltb (v .cost) (x .cost) h))
-    (le-or-lt (x .cost) (v .cost)))
+    rw (insert-before v x xs (rw same h))
+
+-- any other leaves the first
+pub first-stays : (v b : Vertex) (vs : List Vertex) → take 1 vs ≡ b ∷ [] → b .cost ≤ v .cost → take 1 (insert v vs) ≡ b ∷ []
+first-stays v b [] e h = cc
+first-stays v b (x ∷ xs) e h =
+    let same : x ≡ b = cc in
+    rw (insert-after v x xs (rw same h), same)
 
 -- the vertices are the same and the newcomer: every measure of them adds up
 pub total-insert : (f : Vertex → ℕ) (v : Vertex) (vs : List Vertex) → total (map f (insert v vs)) ≡ f v + total (map f vs)

@@ -1,61 +1,70 @@
 -- Settled exactly when a probe round has been told in full and none was lower. Assumes nothing.
 use mathlib.Core.Path.{_≡_, refl, sym, ap, _∙_, subst}
-use mathlib.Core.Bool.{Bool, true, false, true≢false}
+use mathlib.Core.Bool.{true, false, true≢false}
 use mathlib.Core.List.{List, [], _∷_, _++_, append-assoc, append-nil}
-use mathlib.Core.Logic.{⊎-elim}
+use mathlib.Core.Logic.{_≢_, ⊎-elim}
 use Prim.Native.Nat.{ℕ, zero, suc, _+_, _-_, _*_, _≤_, _<_, suc-le-suc}
 use native.Mathlib.Omega.{arith}
 use native.Mathlib.Nat.{not-suc-le-zero}
 use lib.ListN.{length, getD, length-append}
 use lib.Seq.{append-snoc}
-use lib.Dec.{eqb, ltb}
-use borrow.Author.Tests.{eqb-true, ltb-false, le-ltb, eq-eqb, ne-eqb}
-use Rattle.rules.specs.Accept.{bestAfter, noted, withPhase, withCounts, probedOnce, pick, restarted, probeMissed, probedOn, advanced, spentPhase, budgeted, accept, run}
+use Rattle.rules.specs.Accept.{bestAfter, noted, endsRound, isFull, probedOn, advanced, spentPhase, isSpent, budgeted, accept, run}
 use Rattle.rules.specs.Calls.{isEnded, maxCost}
 use Rattle.rules.specs.Tally.{isProbe}
 use Rattle.rules.specs.Claims.{FullRound}
 use Rattle.rules.specs.declared.Vertex.{Vertex}
+use Rattle.rules.specs.declared.Setup.{Setup}
 use Rattle.rules.specs.declared.Search.{Search}
 use Rattle.rules.specs.declared.Phase.{Phase}
 use Rattle.rules.specs.declared.Phase.the-variants.{Building, Reflecting, Expanding, Contracting, Shrinking, Probing, Ended}
 use Rattle.rules.specs.declared.Cause.the-variants.{Settled, Budget}
+use Rattle.rules.proofs.Tests.{tests, pick-elim, spent-elim}
 use Rattle.rules.proofs.Histories.{told, Told, run-append}
 use Rattle.rules.proofs.Invariant.{Inv, Idle}
-use Rattle.rules.proofs.Noting.{_▹_, below-snoc, old-cost, new-cost}
+use Rattle.rules.proofs.Noting.{_▹_, best-stays, below-snoc, old-cost, new-cost}
 use Rattle.rules.proofs.Stepping.{Fresh}
-use Rattle.rules.proofs.Iterating.{best-stays}
 use Rattle.rules.proofs.Accepting.{Room, accept-step, accept-room}
 
--- the phase after probe j: whether it was lower, and whether it was the last
-abbrev afterProbe : Bool → Bool → ℕ → Phase
-afterProbe true last j = Building 1
-afterProbe false true j = Ended Settled
-afterProbe false false j = Probing (j + 1)
+-- ---- a probe told
 
--- a probe told: the phase, and the best, which every way keeps as noted
-budgeted-probe : (lower last : Bool) (j : ℕ) (v : Vertex) (t : Search)
-    → budgeted (pick lower (restarted v t) (pick last (withPhase (Ended Settled) t) (withPhase (Probing (j + 1)) t))) .phase ≡ spentPhase (eqb (t .readings) (t .setup .budget)) (afterProbe lower last j)
-budgeted-probe true last j v t = refl
-budgeted-probe false true j v t = refl
-budgeted-probe false false j v t = refl
+-- what becomes of a round at best cost b when probe j of 2n is told the cost c, and q is the phase after it
+data Outcome (b c j n : ℕ) (q : Phase) : Type 0 where
+  restarting : c < b → q ≡ Building 1 → Outcome b c j n q
+  settling : b ≤ c → j + 1 ≡ 2 * n → q ≡ Ended Settled → Outcome b c j n q
+  going : b ≤ c → j + 1 ≢ 2 * n → q ≡ Probing (j + 1) → Outcome b c j n q
+  stopping : (b ≤ c → j + 1 ≢ 2 * n) → q ≡ Ended Budget → Outcome b c j n q
 
-best-probe : (lower last : Bool) (j : ℕ) (v : Vertex) (t : Search) → pick lower (restarted v t) (pick last (withPhase (Ended Settled) t) (withPhase (Probing (j + 1)) t)) .best ≡ t .best
-best-probe true last j v t = refl
-best-probe false true j v t = refl
-best-probe false false j v t = refl
+-- where the budget is spent, what was not settled ends with cause budget
+spend : (b c j n : ℕ) (q : Phase) → Outcome b c j n q → Outcome b c j n (spentPhase true q)
+spend b c j n q (restarting l e) = stopping (λ m. absurd (omega arith)) (ap (spentPhase true) e)
+spend b c j n q (settling l m e) = settling l m (ap (spentPhase true) e)
+spend b c j n q (going l m e) = stopping (λ k. m) (ap (spentPhase true) e)
+spend b c j n q (stopping m e) = stopping m (ap (spentPhase true) e)
 
 module _ (s : Search) (c j : ℕ) (e : s .phase ≡ Probing j) where
   probed : accept s c ≡ budgeted (probedOn j (s .best .cost) (told s c) (noted (told s c) s))
   unfolding accept advanced
   probed = ap (λ (p : Phase). budgeted (advanced p (s .best .cost) (told s c) (noted (told s c) s))) e
 
-  phase-after : accept s c .phase ≡ spentPhase (eqb (s .readings + 1) (s .setup .budget)) (afterProbe (ltb c (s .best .cost)) (eqb (j + 1) (2 * s .setup .n)) j)
-  unfolding probedOn
-  phase-after = ap (λ (u : Search). u .phase) probed ∙ budgeted-probe (ltb c (s .best .cost)) (eqb (j + 1) (2 * s .setup .n)) j (told s c) (withCounts (probedOnce (s .counts)) (noted (told s c) s))
-
+  -- either way the best is as noted
   best-after : accept s c .best ≡ bestAfter (s .readings) (told s c) (s .best)
   unfolding probedOn
-  best-after = ap (λ (u : Search). u .best) probed ∙ best-probe (ltb c (s .best .cost)) (eqb (j + 1) (2 * s .setup .n)) j (told s c) (withCounts (probedOnce (s .counts)) (noted (told s c) s))
+  best-after =
+      let P : Search → Type 0 = λ u. u .best ≡ bestAfter (s .readings) (told s c) (s .best) in
+      ap (λ (u : Search). u .best) probed ∙ pick-elim P (endsRound c (s .best .cost)) (λ t. refl) (λ t. pick-elim P (isFull j s) (λ d. refl) (λ d. refl))
+
+  before-budget : Outcome (s .best .cost) c j (s .setup .n) (probedOn j (s .best .cost) (told s c) (noted (told s c) s) .phase)
+  unfolding probedOn
+  before-budget =
+      let P : Search → Type 0 = λ u. Outcome (s .best .cost) c j (s .setup .n) (u .phase) in
+      pick-elim P (endsRound c (s .best .cost)) (λ t. restarting (omega (arith, tests)) refl)
+      (λ t. pick-elim P (isFull j s) (λ d. settling (omega (arith, tests)) (omega (arith, tests)) refl) (λ d. going (omega (arith, tests)) (omega (arith, tests)) refl))
+
+  outcome : Outcome (s .best .cost) c j (s .setup .n) (accept s c .phase)
+  outcome =
+      let u = probedOn j (s .best .cost) (told s c) (noted (told s c) s) in
+      let P = Outcome (s .best .cost) c j (s .setup .n) in
+      subst P (ap (λ (x : Search). x .phase) (sym probed)) (spent-elim P (isSpent u) (λ t. spend (s .best .cost) c j (s .setup .n) (u .phase) before-budget) (λ t. before-budget))
 
   -- a probe comes after readings
   some-read : (rs : List Vertex) → Inv rs s → 1 ≤ s .readings
@@ -67,26 +76,28 @@ module _ (s : Search) (c j : ℕ) (e : s .phase ≡ Probing j) where
 
 -- ---- a full round settles
 
-still-settled : (b : Bool) → spentPhase b (Ended Settled) ≡ Ended Settled
-still-settled true = refl
-still-settled false = refl
+-- the last probe, not lower
+last-settles : (b c j n : ℕ) (q : Phase) → Outcome b c j n q → b ≤ c → j + 1 ≡ 2 * n → q ≡ Ended Settled
+last-settles b c j n q (restarting l e) h m = absurd (omega arith)
+last-settles b c j n q (settling l k e) h m = e
+last-settles b c j n q (going l k e) h m = absurd (k m)
+last-settles b c j n q (stopping k e) h m = absurd (k h m)
 
--- a search that has not ended has not spent its budget
-unspent : (b : Bool) (j : ℕ) (p : Phase) → p ≡ spentPhase b (Probing j) → isEnded p ≡ false → p ≡ Probing j
-unspent true j p e l = absurd (true≢false (sym (ap isEnded e) ∙ l))
-unspent false j p e l = e
+-- an earlier one, not lower, where the search goes on
+earlier-goes : (b c j n : ℕ) (q : Phase) → Outcome b c j n q → b ≤ c → j + 1 ≢ 2 * n → isEnded q ≡ false → q ≡ Probing (j + 1)
+earlier-goes b c j n q (restarting l e) h m live = absurd (omega arith)
+earlier-goes b c j n q (settling l k e) h m live = absurd (m k)
+earlier-goes b c j n q (going l k e) h m live = e
+earlier-goes b c j n q (stopping k e) h m live = absurd (true≢false (sym (ap isEnded e) ∙ live))
 
 pub settles : (rs : List Vertex) (s : Search) → Inv rs s → Room s → (q : List ℕ) (j : ℕ) → s .phase ≡ Probing j → j + length q ≡ 2 * s .setup .n → 1 ≤ length q
     → ((i : ℕ) → i < length q → s .best .cost ≤ getD q i 0) → Told s q → run s q .phase ≡ Ended Settled
 unfolding run Told
 settles rs s inv room [] j e many some low t = absurd (not-suc-le-zero some)
-settles rs s inv room (c ∷ []) j e many some low t =
-    let l = le-ltb c (s .best .cost) (low 0 (omega arith)) in
-    let n = eq-eqb (j + 1) (2 * s .setup .n) many in
-    phase-after s c j e ∙ rw (l, n) (still-settled (eqb (s .readings + 1) (s .setup .budget)))
+settles rs s inv room (c ∷ []) j e many some low t = last-settles (s .best .cost) c j (s .setup .n) (accept s c .phase) (outcome s c j e) (low 0 (omega arith)) many
 settles rs s inv room (c ∷ d ∷ q) j e many some low t =
     let l = low 0 (omega arith) in
-    let k : accept s c .phase ≡ Probing (j + 1) = unspent (eqb (s .readings + 1) (s .setup .budget)) (j + 1) (accept s c .phase) (phase-after s c j e ∙ rw (le-ltb c (s .best .cost) l, ne-eqb (j + 1) (2 * s .setup .n) (λ x. omega arith))) (t .2 .0) in
+    let k = earlier-goes (s .best .cost) c j (s .setup .n) (accept s c .phase) (outcome s c j e) l (omega arith) (t .2 .0) in
     let g = accept-step rs s inv room c (t .0) (t .1) in
     let b = best-kept s c j e rs inv l in
     settles (rs ▹ told s c) (accept s c) (g .inv) (accept-room rs s inv room c (t .0) (t .1)) (d ∷ q) (j + 1) k (rw (g .kept) (omega arith)) (omega arith)
@@ -143,14 +154,11 @@ round-more o h j b c d r l e =
 round-full : (o : Search) (h : List ℕ) (j b : ℕ) → Round o h j b → j ≡ 2 * o .setup .n → (before : List ℕ) × (round : List ℕ) × (h ≡ before ++ round) × FullRound o before round
 round-full o h j b r e = (r .before, r .round, r .splits, record { begins = r .begins; full = r .many ∙ e; noneLower = r .noneLower })
 
-round-on : (o : Search) (h : List ℕ) (j b c d : ℕ) → Round o h j b → (lower last spent : Bool) → ltb c b ≡ lower → eqb (j + 1) (2 * o .setup .n) ≡ last → (b ≤ c → d ≡ b)
-    → Rounds o (h ++ c ∷ []) d (spentPhase spent (afterProbe lower last j))
-round-on o h j b c d r true last true l e k = tt
-round-on o h j b c d r true last false l e k = tt
-round-on o h j b c d r false true true l e k = let m = ltb-false c b l in round-full o (h ++ c ∷ []) (j + 1) d (round-more o h j b c d r m (k m)) (eqb-true (j + 1) (2 * o .setup .n) e)
-round-on o h j b c d r false true false l e k = let m = ltb-false c b l in round-full o (h ++ c ∷ []) (j + 1) d (round-more o h j b c d r m (k m)) (eqb-true (j + 1) (2 * o .setup .n) e)
-round-on o h j b c d r false false true l e k = tt
-round-on o h j b c d r false false false l e k = let m = ltb-false c b l in round-more o h j b c d r m (k m)
+round-on : (o : Search) (h : List ℕ) (j b c d : ℕ) (q : Phase) → Round o h j b → Outcome b c j (o .setup .n) q → (b ≤ c → d ≡ b) → Rounds o (h ++ c ∷ []) d q
+round-on o h j b c d q r (restarting l e) k = rw e tt
+round-on o h j b c d q r (settling l m e) k = rw e (round-full o (h ++ c ∷ []) (j + 1) d (round-more o h j b c d r l (k l)) m)
+round-on o h j b c d q r (going l m e) k = rw e (round-more o h j b c d r l (k l))
+round-on o h j b c d q r (stopping m e) k = rw e tt
 
 -- ---- along a history
 
@@ -165,8 +173,8 @@ module _ (o : Search) (h : List ℕ) (s : Search) (is : run o h ≡ s) (rs : Lis
 
   same-round : (j : ℕ) → s .phase ≡ Probing j → Round o h j (s .best .cost) → Rounds o (h ++ c ∷ []) (accept s c .best .cost) (accept s c .phase)
   same-round j e r =
-      rw (phase-after s c j e)
-      (round-on o h j (s .best .cost) c (accept s c .best .cost) r (ltb c (s .best .cost)) (eqb (j + 1) (2 * s .setup .n)) (eqb (s .readings + 1) (s .setup .budget)) refl (rw kept) (best-kept s c j e rs inv))
+      let n : Outcome (s .best .cost) c j (o .setup .n) (accept s c .phase) = subst (λ (t : Setup). Outcome (s .best .cost) c j (t .n) (accept s c .phase)) kept (outcome s c j e) in
+      round-on o h j (s .best .cost) c (accept s c .best .cost) (accept s c .phase) r n (best-kept s c j e rs inv)
 
   round-step : (p : Phase) → s .phase ≡ p → Rounds o h (s .best .cost) p → Rounds o (h ++ c ∷ []) (accept s c .best .cost) (accept s c .phase)
   round-step (Building i) e r = new-round (ap isProbe e)

@@ -14,7 +14,7 @@ use Rattle.rules.specs.Simplex.{pack, unpack, costOf, Ordered}
 use Rattle.rules.specs.Stop.{total}
 use Rattle.rules.specs.Accept.{Piece, build, reflection, expansion, contraction, shrink, counted, bestAfter, noted, testedPhase, met, finished}
 use Rattle.rules.specs.Calls.{standingOf}
-use Rattle.rules.specs.Tally.{countOf, isNone}
+use Rattle.rules.specs.Tally.{countOf, isOpen}
 use Rattle.rules.specs.declared.Vertex.{Vertex}
 use Rattle.rules.specs.declared.Simplex.{Simplex}
 use Rattle.rules.specs.declared.Counts.{Counts}
@@ -26,11 +26,6 @@ use Rattle.rules.specs.declared.Cause.the-variants.{Settled, Budget}
 use Rattle.rules.proofs.Places.{Whole, unpack-take}
 use Rattle.rules.proofs.Invariant.{Known, Leads, Noted, Stands, Gathers, Equation, Idle, At, Inv}
 use Rattle.rules.proofs.Noting.{_▹_}
-
--- a test's two cases, each with its equation
-pub by-test : (P : Bool → Type 0) (b : Bool) → (b ≡ true → P true) → (b ≡ false → P false) → P b
-by-test P true f g = f refl
-by-test P false f g = g refl
 
 -- the counts after the pieces of a list, and after so many probes
 pub record Counted (ps : List Piece) (probe : ℕ) (c d : Counts) : Type 0 where
@@ -97,10 +92,14 @@ pub record Stepped (rs : List Vertex) (ps : List Piece) (probe : ℕ) (s u : Sea
   pub inv : Inv rs u
   pub kept : u .setup ≡ s .setup
   pub counts : Counted ps probe (s .counts) (u .counts)
-  pub unfinished : u .counts .unfinished ≡ cond (isNone ps && not (eqb (s .readings) 0) && eqb probe 0) (s .counts .unfinished + 1) 0
+  pub unfinished : u .counts .unfinished ≡ cond (isOpen ps probe (s .readings)) (s .counts .unfinished + 1) 0
   pub falls : countOf build ps ≡ 0 → countOf shrink ps ≡ 0 → othersIn ps + standingCosts u ≤ standingCosts s
   pub first : (ps ≡ [] → ⊥) → Leads (standingOf u) (u .best)
   pub fresh : probe ≡ 0 → Fresh (u .phase)
+
+-- the pieces of a step, by an equation
+pub pieces-are : {rs : List Vertex} {ps qs : List Piece} {probe : ℕ} {s u : Search} → ps ≡ qs → Stepped rs qs probe s u → Stepped rs ps probe s u
+pieces-are e h = rw e h
 
 -- ---- the standing simplex is the list that the invariant names
 

@@ -45,10 +45,14 @@ abbrev pub better : Bool → Vertex → Vertex → Vertex
 better true a b = a
 better false a b = b
 
--- "Best is the earliest reading of least cost": after k readings, a new one replaces it only where it is lower
+-- a reading replaces the best only where it is lower
+abbrev pub replaces : Vertex → Vertex → Bool
+replaces new old = ltb (new .cost) (old .cost)
+
+-- "Best is the earliest reading of least cost": after k readings
 abbrev pub bestAfter : ℕ → Vertex → Vertex → Vertex
 bestAfter zero new old = new
-bestAfter (suc k) new old = better (ltb (new .cost) (old .cost)) new old
+bestAfter (suc k) new old = better (replaces new old) new old
 
 -- one reading more, and "best .. updated at each tell"
 abbrev pub noted : Vertex → Search → Search
@@ -130,27 +134,47 @@ firstOpen zero (suc i) = 1
 firstOpen (suc b) zero = 1
 firstOpen (suc b) (suc i) = 1
 
+-- trial i is the last of a build or a shrink
+abbrev pub isLast : ℕ → Search → Bool
+isLast i s = eqb i (s .setup .n)
+
 -- trial i of a build told: "built .. vertices enter in the order told"; trial n ends the build
 unfoldable pub builtOn : ℕ → Vertex → Search → Search
 builtOn i v s =
     let vs = insert v (unpack i (s .gathered)) in
-    pick (eqb i (s .setup .n)) (finished build [] [] vs s) (waiting (Building (i + 1)) (firstOpen (s .counts .builds) i) (withGathered vs s))
+    pick (isLast i s) (finished build [] [] vs s) (waiting (Building (i + 1)) (firstOpen (s .counts .builds) i) (withGathered vs s))
+
+-- the first row: "fr < f1"
+abbrev pub row1 : ℕ → Search → Bool
+row1 fr s = ltb fr (f1 s)
+
+-- the second row: "f1 ≤ fr < fn", the first being tried before
+abbrev pub row2 : ℕ → Search → Bool
+row2 fr s = ltb fr (fn s)
+
+-- the third row: "fn ≤ fr < fw"
+abbrev pub row3 : ℕ → Search → Bool
+row3 fr s = ltb fr (fw s)
 
 -- r told: the four rows of the table
 unfoldable pub reflectedOn : Vertex → Search → Search
 reflectedOn v s =
     let f = v .cost in
-    pick (ltb f (f1 s)) (waiting (Expanding f) 1 s)
-    (pick (ltb f (fn s)) (taken reflection v s)
-    (pick (ltb f (fw s)) (waiting (Contracting Outside f) 1 s) (waiting (Contracting Inside f) 1 s)))
+    pick (row1 f s) (waiting (Expanding f) 1 s)
+    (pick (row2 f s) (taken reflection v s)
+    (pick (row3 f s) (waiting (Contracting Outside f) 1 s) (waiting (Contracting Inside f) 1 s)))
 
 -- r with its cost
 abbrev pub reflectedVertex : ℕ → Search → Vertex
 reflectedVertex f s = record { point = point (s .setup .n) (reflected (s .setup) (s .standing .points)); cost = f }
 
--- first row, e told: "take e if fe < fr, else r"
+-- "take e if fe < fr"
+abbrev pub winsExpanded : ℕ → ℕ → Bool
+winsExpanded fe fr = ltb fe fr
+
+-- first row, e told: e, "else r"
 unfoldable pub expandedOn : ℕ → Vertex → Search → Search
-expandedOn fr v s = taken expansion (better (ltb (v .cost) fr) v (reflectedVertex fr s)) s
+expandedOn fr v s = taken expansion (better (winsExpanded (v .cost) fr) v (reflectedVertex fr s)) s
 
 -- "A shrink keeps x1 and asks" for the point at place 2
 abbrev pub shrinking : Search → Search
@@ -173,7 +197,7 @@ shrunkPoints s = upTo (λ (k : ℕ). point (s .setup .n) (shrunk (s .setup) (s .
 unfoldable pub shrunkOn : ℕ → Vertex → Search → Search
 shrunkOn j v s =
     let vs = insert v (unpack j (s .gathered)) in
-    pick (eqb j (s .setup .n))
+    pick (isLast j s)
     (finished shrink (map pointOf (drop 1 (unpack (s .setup .n + 1) (s .standing)))) (shrunkPoints s) vs s)
     (waiting (Shrinking (j + 1)) 1 (withGathered vs s))
 
@@ -181,13 +205,21 @@ shrunkOn j v s =
 abbrev pub restarted : Vertex → Search → Search
 restarted v s = withPhase (Building 1) (withCenter (v .point) (withGathered (v ∷ []) s))
 
+-- with probe p "all 2n are told"
+abbrev pub isFull : ℕ → Search → Bool
+isFull p s = eqb (p + 1) (2 * s .setup .n)
+
 -- probe p was not lower: "If all 2n are told and none is lower, the search ends settled"
 abbrev pub probeMissed : ℕ → Search → Search
-probeMissed p s = pick (eqb (p + 1) (2 * s .setup .n)) (withPhase (Ended Settled) s) (withPhase (Probing (p + 1)) s)
+probeMissed p s = pick (isFull p s) (withPhase (Ended Settled) s) (withPhase (Probing (p + 1)) s)
 
--- probe p told, b being the best cost before it: "The first reading lower than b's ends the round"
+-- "The first reading lower than b's ends the round"
+abbrev pub endsRound : ℕ → ℕ → Bool
+endsRound c b = ltb c b
+
+-- probe p told, b being the best cost before it
 unfoldable pub probedOn : ℕ → ℕ → Vertex → Search → Search
-probedOn p b v s = let t = withCounts (probedOnce (s .counts)) s in pick (ltb (v .cost) b) (restarted v t) (probeMissed p t)
+probedOn p b v s = let t = withCounts (probedOnce (s .counts)) s in pick (endsRound (v .cost) b) (restarted v t) (probeMissed p t)
 
 -- the reading v told in each phase, b being the best cost before it
 unfoldable pub advanced : Phase → ℕ → Vertex → Search → Search
@@ -211,8 +243,12 @@ spentPhase true (Ended cause) = Ended cause
 spentPhase false p = p
 
 -- "when the number of accepted readings reaches it"
+abbrev pub isSpent : Search → Bool
+isSpent s = eqb (s .readings) (s .setup .budget)
+
+-- the search with its budget tested
 abbrev pub budgeted : Search → Search
-budgeted s = withPhase (spentPhase (eqb (s .readings) (s .setup .budget)) (s .phase)) s
+budgeted s = withPhase (spentPhase (isSpent s) (s .phase)) s
 
 -- the search after an accepted reading: the trial with its cost is noted, the phase goes on, the budget is tested
 unfoldable pub accept : Search → ℕ → Search

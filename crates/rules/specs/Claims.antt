@@ -14,7 +14,7 @@ use Rattle.rules.specs.Stop.{total}
 use Rattle.rules.specs.Accept.{Piece, build, reflection, expansion, contraction, shrink, run}
 use Rattle.rules.specs.Calls.{standingOf, showing, asking, telling, isEnded}
 use Rattle.rules.specs.History.{joins, reading, EarliestLeast}
-use Rattle.rules.specs.Tally.{made, others, probesIn, openIn, Ends, EndsIn}
+use Rattle.rules.specs.Tally.{made, others, probesIn, openIn, readingsBy, Ends, EndsIn}
 use Rattle.rules.specs.declared.Phase.the-variants.{Probing, Ended}
 use Rattle.rules.specs.declared.Cause.the-variants.{Settled}
 use Rattle.rules.specs.declared.Verdict.the-variants.{Accepted}
@@ -72,9 +72,7 @@ pub record Claims (o : Search) (h : List ℕ) (s : Search) : Type 0 where
   pub shrinks : s .counts .shrinks ≡ made shrink o h
   pub probes : s .counts .probes ≡ probesIn o h
   pub unfinished : s .counts .unfinished ≡ openIn 0 o h
-  pub equation : 0 < length h
-      → s .readings ≡ 1 + o .setup .n * s .counts .builds + s .counts .reflections + 2 * (s .counts .expansions + s .counts .contractions)
-      + (o .setup .n + 2) * s .counts .shrinks + s .counts .probes + s .counts .unfinished
+  pub equation : 0 < length h → s .readings ≡ readingsBy (o .setup .n) (s .counts)
   -- the bound by S
   pub boundAfterBuild : BoundAfter build o h
   pub boundAfterShrink : BoundAfter shrink o h

@@ -1,5 +1,5 @@
 -- "Build": vertices in cost order, and the flat run of 72 numbers in which the nine places stand.
-use mathlib.Core.Bool.{cond}
+use mathlib.Core.Bool.{Bool, cond}
 use mathlib.Core.List.{List, [], _∷_, _++_, map}
 use Prim.Native.Nat.{ℕ, zero, suc, _-_, _*_, _≤_}
 use lib.ListN.{length, getD, take, drop, replicate}
@@ -51,10 +51,14 @@ place s i = record { point = take 8 (drop (8 * i) (s .points)); cost = getD (s .
 unfoldable pub unpack : ℕ → Simplex → List Vertex
 unpack m s = upTo (place s) m
 
+-- the newcomer v goes past x: "after all of equal cost", and of lower
+abbrev pub passes : Vertex → Vertex → Bool
+passes v x = leb (x .cost) (v .cost)
+
 -- "A newcomer goes after all of equal cost", by "a rule that calls itself on one vertex fewer"
 unfoldable pub insert : Vertex → List Vertex → List Vertex
 insert v [] = v ∷ []
-insert v (x ∷ xs) = cond (leb (x .cost) (v .cost)) (x ∷ insert v xs) (v ∷ x ∷ xs)
+insert v (x ∷ xs) = cond (passes v x) (x ∷ insert v xs) (v ∷ x ∷ xs)
 
 -- c is at most the cost of the first vertex
 abbrev pub atMost : ℕ → List Vertex → Type 0

@@ -2,11 +2,12 @@
 use mathlib.Core.Path.{_≡_}
 use mathlib.Core.Bool.{Bool, true, false, cond, not, _&&_}
 use mathlib.Core.List.{List, [], _∷_, _++_}
-use Prim.Native.Nat.{ℕ, _+_}
+use Prim.Native.Nat.{ℕ, _+_, _*_}
 use lib.Dec.{ltb, eqb}
 use Rattle.rules.specs.Accept.{Piece, build, reflection, expansion, contraction, shrink, accept, run, f1, fn, wins}
 use Rattle.rules.specs.declared.Phase.{Phase}
 use Rattle.rules.specs.declared.Phase.the-variants.{Building, Reflecting, Expanding, Contracting, Shrinking, Probing, Ended}
+use Rattle.rules.specs.declared.Counts.{Counts}
 use Rattle.rules.specs.declared.Search.{Search}
 
 -- a piece where the test holds, else none
@@ -71,15 +72,19 @@ abbrev pub isNone : List Piece → Bool
 isNone [] = true
 isNone (p ∷ ps) = false
 
--- the cost c is open when it is told: it finishes no piece, it is no probe, and it is not the first reading of all
-abbrev pub isOpen : Search → ℕ → Bool
-isOpen s c = isNone (finishes (s .phase) s c) && not (eqb (s .readings) 0) && eqb (isProbe (s .phase)) 0
+-- a reading is open: it finishes no piece, it is no probe, and it is not the first reading of all, k being those before it
+abbrev pub isOpen : List Piece → ℕ → ℕ → Bool
+isOpen ps probe k = isNone ps && eqb probe 0 && not (eqb k 0)
 
 -- "Open is the readings told in the unfinished iteration or restart build; in the first build it leaves out the first reading":
 -- k of them before the readings of h
 unfoldable pub openIn : ℕ → Search → List ℕ → ℕ
 openIn k s [] = k
-openIn k s (c ∷ cs) = openIn (cond (isOpen s c) (k + 1) 0) (accept s c) cs
+openIn k s (c ∷ cs) = openIn (cond (isOpen (finishes (s .phase) s c) (isProbe (s .phase)) (s .readings)) (k + 1) 0) (accept s c) cs
+
+-- the right side of the readings equation: the first reading, and those of each finished piece, of probes and still open
+abbrev pub readingsBy : ℕ → Counts → ℕ
+readingsBy n c = 1 + n * c .builds + c .reflections + 2 * (c .expansions + c .contractions) + (n + 2) * c .shrinks + c .probes + c .unfinished
 
 -- the reading c, told after h, ends a build or an iteration
 abbrev pub Ends : Search → List ℕ → ℕ → Type 0
