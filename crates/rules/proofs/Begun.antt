@@ -145,17 +145,16 @@ module _ (o : Search) (begun : Begun o) where
         let same : reading o (before ++ c ∷ since) (b .0) ≡ reading o (before ++ c ∷ []) (b .0) = rw (← split) (reading-append o (before ++ c ∷ []) since (b .0) (b .1 .told)) in
         (b .0, b .1, leads ∙ ap (λ (v : Vertex). v ∷ []) (b .2 ∙ sym same))
 
-    -- the bound by S, from this reading on
-    pub run-bound : made build o (before ++ c ∷ since) ≡ made build o (before ++ c ∷ []) → made shrink o (before ++ c ∷ since) ≡ made shrink o (before ++ c ∷ [])
-        → others o (before ++ c ∷ since) ≤ others o (before ++ c ∷ []) + standingTotal o (before ++ c ∷ [])
-    run-bound builds shrinks =
+    -- the pieces of the whole history are those up to c and those since
+    pub made-since : (p : Piece) → made p o (before ++ c ∷ since) ≡ made p o (before ++ c ∷ []) + made p (run o (before ++ c ∷ [])) since
+    made-since p = rw (← split) (made-append p o (before ++ c ∷ []) since)
+
+    -- while no build and no shrink ends, the sum of the standing costs falls with each other iteration
+    pub falls-since : made build (run o (before ++ c ∷ [])) since ≡ 0 → made shrink (run o (before ++ c ∷ [])) since ≡ 0 → others (run o (before ++ c ∷ [])) since ≤ standingTotal o (before ++ c ∷ [])
+    falls-since builds shrinks =
         let here = before ++ c ∷ [] in
-        let s = run o here in
         let r = whole-run here told-here in
-        let falls = ran (readingsOf o here) s (r .inv) (r .room) since told-since .falls in
-        let more : (p : Piece) → made p o (before ++ c ∷ since) ≡ made p o here + made p s since = λ p. rw (← split) (made-append p o here since) in
-        let f = falls (omega (arith, more build)) (omega (arith, more shrink)) in
-        rw (more reflection, more expansion, more contraction) (omega arith)
+        omega (arith, ran (readingsOf o here) (run o here) (r .inv) (r .room) since told-since .falls builds shrinks)
 
   -- ---- settled exactly when
 

@@ -1,6 +1,6 @@
 -- What each caller relies on, of every search that an opening and calls have made. Assumes nothing.
 use mathlib.Core.Path.{_≡_, refl, sym, ap, _∙_, subst}
-use mathlib.Core.Bool.{Bool, true, false, cond, not, and-eq-true-iff}
+use mathlib.Core.Bool.{Bool, true, false, true≢false, cond, not, and-eq-true-iff}
 use mathlib.Core.List.{List, [], _∷_, _++_}
 use mathlib.Core.Logic.{_↔_}
 use Prim.Native.Nat.{ℕ, _+_, _*_, _≤_, _<_}
@@ -28,39 +28,32 @@ use Rattle.rules.specs.declared.Refusal.the-variants.{SearchEnded, CostT
 use Rattle.rules.proofs.Openings.{opened-verdict, opened-fresh, opened-axis}
 use Rattle.rules.proofs.Histories.{Told}
 use Rattle.rules.proofs.Begun.{Begun}
-use Rattle.rules.proofs.Calling.{run-undamaged, all-follow}
+use Rattle.rules.proofs.Calling.{asked-verdict, told-verdict, shown-verdict, run-undamaged, all-follow}
 use Rattle.rules.proofs.Claim.{opened-begun, claim}
 
 -- ---- the calls' verdicts on a search that is not damaged
 
+-- the number of a refusal, 0 where there is none
+abbrev numberIn : Verdict → ℕ
+numberIn Accepted = 0
+numberIn (Refused r) = numberOf r
+
+-- not refused as 12
+abbrev pub Not12 : Verdict → Type 0
+Not12 v = v ≡ Refused Damaged → ⊥
+
+accepted-not-12 : Not12 Accepted
+accepted-not-12 e = let z : _≡_ {A = ℕ} 0 1 = cc in omega arith
+
+-- a refusal has one number
+not-12 : (r : Refusal) → (eqb (numberOf r) 12 ≡ false) → Not12 (Refused r)
+not-12 r d e = true≢false (sym (ap (λ (v : Verdict). eqb (numberIn v) 12) e) ∙ d)
+
+check-elim : (P : Verdict → Type 0) (b : Bool) {r : Refusal} {v : Verdict} → (b ≡ true → P v) → (b ≡ false → P (Refused r)) → P (check b r v)
+check-elim P true f g = f refl
+check-elim P false f g = g refl
+
 module _ (s : Search) (h : undamaged s ≡ true) where
-  -- refusal 12 is not among them
-  ask-not-12 : asking s .verdict ≡ Refused Damaged → ⊥
-  unfolding asking askVerdict
-  ask-not-12 e = go (isEnded (s .phase)) (rw h at e)
-    where
-      go : (b : Bool) → askedBy (check (not b) SearchEnded Accepted) s .verdict ≡ Refused Damaged → ⊥
-      go true e = let z : _≡_ {A = ℕ} 0 1 = cc in omega arith
-      go false e = let z : _≡_ {A = ℕ} 0 1 = cc in omega arith
-
-  best-not-12 : showing s .verdict ≡ Refused Damaged → ⊥
-  unfolding showing bestVerdict
-  best-not-12 e = go (eqb (s .readings) 0) (rw h at e)
-    where
-      go : (b : Bool) → shownBy (check (not b) NoReading Accepted) s .verdict ≡ Refused Damaged → ⊥
-      go true e = let z : _≡_ {A = ℕ} 0 1 = cc in omega arith
-      go false e = let z : _≡_ {A = ℕ} 0 1 = cc in omega arith
-
-  tell-not-12 : (k c : ℕ) → telling s k c .verdict ≡ Refused Damaged → ⊥
-  unfolding telling tellVerdict
-  tell-not-12 k c e = go (isEnded (s .phase)) (eqb k (s .readings + 1)) (leb c maxCost) (rw h at e)
-    where
-      go : (a b d : Bool) → toldBy (check (not a) SearchEnded (check b WrongNumber (check d CostTooHigh Accepted))) s c .verdict ≡ Refused Damaged → ⊥
-      go true b d e = let z : _≡_ {A = ℕ} 0 1 = cc in omega arith
-      go false false d e = let z : _≡_ {A = ℕ} 0 1 = cc in omega arith
-      go false true false e = let z : _≡_ {A = ℕ} 0 1 = cc in omega arith
-      go false true true e = let z : _≡_ {A = ℕ} 0 1 = cc in omega arith
-
   -- a number that is not the next is refused as 10, or as 8 where the search has ended
   tell-wrong : (k c : ℕ) → (k ≡ s .readings + 1 → ⊥) → telling s k c ≡ record { verdict = Refused (cond (isEnded (s .phase)) SearchEnded WrongNumber); search = s }
   unfolding telling tellVerdict
@@ -74,6 +67,27 @@ module _ (s : Search) (h : undamaged s ≡ true) where
   best-none : s .readings ≡ 0 → showing s .verdict ≡ Refused NoReading
   unfolding showing bestVerdict
   best-none e = rw (h, eq-eqb (s .readings) 0 e)
+
+  -- no call is refused as 12
+  first-passes : (v : Verdict) → Not12 v → Not12 (check (undamaged s) Damaged v)
+  first-passes v g = check-elim Not12 (undamaged s) (λ e. g) (λ e. absurd (true≢false (sym h ∙ e)))
+
+  ask-not-12 : Not12 (asking s .verdict)
+  unfolding asking askVerdict
+  ask-not-12 = rw (asked-verdict (askVerdict s) s) (first-passes _ (check-elim Not12 (not (isEnded (s .phase))) (λ e. accepted-not-12) (λ e. not-12 _ refl)))
+
+  best-not-12 : Not12 (showing s .verdict)
+  unfolding showing bestVerdict
+  best-not-12 = rw (shown-verdict (bestVerdict s) s) (first-passes _ (check-elim Not12 (not (eqb (s .readings) 0)) (λ e. accepted-not-12) (λ e. not-12 _ refl)))
+
+  tell-not-12 : (k c : ℕ) → Not12 (telling s k c .verdict)
+  unfolding telling tellVerdict
+  tell-not-12 k c =
+      rw (told-verdict (tellVerdict s k c) s c)
+      (first-passes _
+      (check-elim Not12 (not (isEnded (s .phase)))
+      (λ e. check-elim Not12 (eqb k (s .readings + 1)) (λ d. check-elim Not12 (leb c maxCost) (λ b. accepted-not-12) (λ b. not-12 _ refl)) (λ d. not-12 _ refl))
+      (λ e. not-12 _ refl)))
 
 -- a tell that joins has the next number
 joins-number : (o : Search) (h : List ℕ) (k c : ℕ) → joins o h k c ≡ true → eqb k (length h + 1) ≡ true
@@ -119,8 +133,7 @@ module _ (n : ℕ) (axes : List Axis) (rule : RuleChoice) (coefficients : Coeffi
       let f = all-follow openedSearch b cs [] tt in
       rw (f .1) (run-undamaged openedSearch b (accepted-costs cs) (f .0))
 
-  pub never-12 : (cs : List Call)
-      → (asking (reached cs) .verdict ≡ Refused Damaged → ⊥) × ((k c : ℕ) → telling (reached cs) k c .verdict ≡ Refused Damaged → ⊥) × (showing (reached cs) .verdict ≡ Refused Damaged → ⊥)
+  pub never-12 : (cs : List Call) → Not12 (asking (reached cs) .verdict) × ((k c : ℕ) → Not12 (telling (reached cs) k c .verdict)) × Not12 (showing (reached cs) .verdict)
   never-12 cs = let h = sound-always cs in (ask-not-12 (reached cs) h, tell-not-12 (reached cs) h, best-not-12 (reached cs) h)
 
   -- tell accepts exactly when the history says so

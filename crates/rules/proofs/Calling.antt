@@ -1,6 +1,6 @@
 -- Calls on a search of the rules over an accepted history, and lists of them. Assumes nothing.
 use mathlib.Core.Path.{_≡_, refl, sym, ap, _∙_, subst}
-use mathlib.Core.Bool.{Bool, true, false, true≢false, false≢true, cond, not, _&&_}
+use mathlib.Core.Bool.{Bool, true, false, true≢false, cond, not, _&&_, and-eq-true-iff}
 use mathlib.Core.List.{List, [], _∷_, _++_}
 use mathlib.Core.Logic.{_↔_}
 use Prim.Native.Nat.{ℕ, zero, suc, _+_, _≤_, _<_}
@@ -9,7 +9,7 @@ use lib.ListN.{length, getD}
 use lib.Ieee.{nan}
 use Rattle.rules.specs.Simplex.{point}
 use lib.Dec.{eqb, leb}
-use borrow.Author.Tests.{leb-true, ne-eqb, eq-eqb, not-true}
+use borrow.Author.Tests.{ne-eqb, not-true}
 use Rattle.rules.specs.Trial.{trial}
 use Rattle.rules.specs.Accept.{accept, run}
 use Rattle.rules.specs.Opening.{check}
@@ -21,16 +21,23 @@ use Rattle.rules.specs.declared.Verdict.{Verdict}
 use Rattle.rules.specs.declared.Verdict.the-variants.{Accepted, Refused}
 use Rattle.rules.specs.declared.Refusal.{Refusal}
 use Rattle.rules.specs.declared.Refusal.the-variants.{SearchEnded, CostTooHigh, WrongNumber, NoReading, Damaged}
+use Rattle.rules.proofs.Tests.{tests}
+use Rattle.rules.proofs.Openings.{check-iff}
 use Rattle.rules.proofs.Histories.{Told, told-snoc, readingsOf, run-append}
 use Rattle.rules.proofs.Sound.{never-damaged}
 use Rattle.rules.proofs.Begun.{Begun, whole-run, run-readings, run-best, best-shape}
 
 -- ---- answers by their verdict
 
-refused-not : (r : Refusal) → Refused r ≡ Accepted → ⊥
-refused-not r e = let z : _≡_ {A = ℕ} 0 1 = cc in omega arith
+pub asked-verdict : (v : Verdict) (s : Search) → askedBy v s .verdict ≡ v
+asked-verdict Accepted s = refl
+asked-verdict (Refused r) s = refl
 
-told-verdict : (v : Verdict) (s : Search) (c : ℕ) → toldBy v s c .verdict ≡ v
+pub shown-verdict : (v : Verdict) (s : Search) → shownBy v s .verdict ≡ v
+shown-verdict Accepted s = refl
+shown-verdict (Refused r) s = refl
+
+pub told-verdict : (v : Verdict) (s : Search) (c : ℕ) → toldBy v s c .verdict ≡ v
 told-verdict Accepted s c = refl
 told-verdict (Refused r) s c = refl
 
@@ -48,13 +55,6 @@ pub shown-search : (v : Verdict) (s : Search) → shownBy v s .search ≡ s
 shown-search Accepted s = refl
 shown-search (Refused r) s = refl
 
--- three checks accept where all three tests hold
-three-checks : (a b c : Bool) (r q p : Refusal) → (check a r (check b q (check c p Accepted)) ≡ Accepted) ↔ ((a && b && c) ≡ true)
-three-checks true true true r q p = (λ e. refl, λ e. refl)
-three-checks true true false r q p = (λ e. absurd (refused-not p e), λ e. absurd (false≢true e))
-three-checks true false c r q p = (λ e. absurd (refused-not q e), λ e. absurd (false≢true e))
-three-checks false b c r q p = (λ e. absurd (refused-not r e), λ e. absurd (false≢true e))
-
 module _ (o : Search) (begun : Begun o) (h : List ℕ) (t : Told o h) where
   -- refusal 12 is not given
   pub run-undamaged : undamaged (run o h) ≡ true
@@ -62,13 +62,23 @@ module _ (o : Search) (begun : Begun o) (h : List ℕ) (t : Told o h) where
 
   -- ---- tell
 
-  tell-checks : (k c : ℕ) → tellVerdict (run o h) k c ≡ check (not (isEnded (run o h .phase))) SearchEnded (check (eqb k (length h + 1)) WrongNumber (check (leb c maxCost) CostTooHigh Accepted))
-  unfolding tellVerdict
-  tell-checks k c = rw (run-undamaged, run-readings o begun h t)
-
   -- a tell is accepted exactly when the history says so
+  tell-then-joins : (k c : ℕ) → tellVerdict (run o h) k c ≡ Accepted → joins o h k c ≡ true
+  unfolding tellVerdict
+  tell-then-joins k c e =
+      let p = simp check-iff at e in
+      let n = run-readings o begun h t in
+      simp and-eq-true-iff ((p .1 .0, omega (arith, tests)), omega (arith, tests))
+
+  joins-then-tell : (k c : ℕ) → joins o h k c ≡ true → tellVerdict (run o h) k c ≡ Accepted
+  unfolding tellVerdict
+  joins-then-tell k c e =
+      let p = simp and-eq-true-iff at e in
+      let n = run-readings o begun h t in
+      simp check-iff (run-undamaged, (p .0 .0, (omega (arith, tests), (omega (arith, tests), refl))))
+
   pub tell-joins : (k c : ℕ) → (tellVerdict (run o h) k c ≡ Accepted) ↔ (joins o h k c ≡ true)
-  tell-joins k c = rw (tell-checks k c) (three-checks (not (isEnded (run o h .phase))) (eqb k (length h + 1)) (leb c maxCost) SearchEnded WrongNumber CostTooHigh)
+  tell-joins k c = (tell-then-joins k c, joins-then-tell k c)
 
   pub telling-joins : (k c : ℕ) → (telling (run o h) k c .verdict ≡ Accepted) ↔ (joins o h k c ≡ true)
   unfolding telling
@@ -100,15 +110,10 @@ module _ (o : Search) (begun : Begun o) (h : List ℕ) (t : Told o h) where
 
   -- ---- one call
 
-  joins-parts : (a b c : Bool) → (a && b && c) ≡ true → (a ≡ true) × (c ≡ true)
-  joins-parts true true c e = (refl, e)
-  joins-parts true false c e = absurd (false≢true e)
-  joins-parts false b c e = absurd (false≢true e)
-
   tell-told : (k c : ℕ) → joins o h k c ≡ true → Told o (h ++ c ∷ [])
   tell-told k c e =
-      let p = joins-parts (not (isEnded (run o h .phase))) (eqb k (length h + 1)) (leb c maxCost) e in
-      told-snoc o h c t (not-true (isEnded (run o h .phase)) (p .0)) (leb-true c maxCost (p .1))
+      let p = simp and-eq-true-iff at e in
+      told-snoc o h c t (not-true (isEnded (run o h .phase)) (p .0 .0)) (omega (arith, tests))
 
   -- the history after a call is accepted, and the search that the call returns is that of the rules over it
   abbrev Follows : Call → Type 0

@@ -6,11 +6,11 @@ use Prim.Native.Nat.{ℕ, _+_, _*_, _≤_, _<_}
 use native.Mathlib.Omega.{arith}
 use lib.ListN.{length, take}
 use Rattle.rules.specs.Trial.{trial}
-use Rattle.rules.specs.Accept.{Piece, build, shrink, run}
+use Rattle.rules.specs.Accept.{Piece, build, reflection, expansion, contraction, shrink, run}
 use Rattle.rules.specs.Opening.{opening, openVerdict, fresh}
 use Rattle.rules.specs.Calls.{isEnded, standingOf, asking}
 use Rattle.rules.specs.History.{Call, after, history, historyFrom, reading, EarliestLeast}
-use Rattle.rules.specs.Tally.{Ends}
+use Rattle.rules.specs.Tally.{readingsBy, Ends}
 use Rattle.rules.specs.Claims.{Within, BoundAfter, FullRound, Claims}
 use Rattle.rules.specs.declared.Axis.{Axis}
 use Rattle.rules.specs.declared.Coefficients.{Coefficients}
@@ -23,13 +23,10 @@ use Rattle.rules.specs.declared.Verdict.the-variants.{Accepted}
 use Rattle.rules.proofs.Openings.{opened-verdict, opened-fresh, opened-sane}
 use Rattle.rules.proofs.Histories.{Told}
 use Rattle.rules.proofs.Invariant.{Equation}
-use Rattle.rules.proofs.Begun.{Begun, fresh-begun, whole-run, run-inv, run-readings, run-builds, run-reflections, run-expansions, run-contractions, run-shrinks, run-probes, run-unfinished, run-standing, run-places, run-vertices, run-first, run-bound, run-settled-only, run-settled-when, run-within, run-within-told}
+use Rattle.rules.proofs.Begun.{Begun, fresh-begun, whole-run, run-inv, run-readings, run-builds, run-reflections, run-expansions, run-contractions, run-shrinks, run-probes, run-unfinished, run-standing, run-places, run-vertices, run-first, made-since, falls-since, run-settled-only, run-settled-when, run-within, run-within-told}
 use Rattle.rules.proofs.Calling.{telling-joins, asking-answers, showing-best, all-follow}
 
--- the readings equation's right side
-abbrev readingsBy : ℕ → Counts → ℕ
-readingsBy n c = 1 + n * c .builds + c .reflections + 2 * (c .expansions + c .contractions) + (n + 2) * c .shrinks + c .probes + c .unfinished
-
+-- the invariant's equation, once there is a reading
 equation-from : (m n k : ℕ) (c : Counts) → m ≡ n → Equation m k c → 0 < k → k ≡ readingsBy n c
 equation-from m n k c e h l = rw (← e) (omega arith)
 
@@ -40,7 +37,11 @@ module _ (o : Search) (begun : Begun o) where
   first-of h t before c since e ends = rw e (run-first o begun before c since (rw e at t) ends)
 
   bound-of : (p : Piece) (h : List ℕ) → Told o h → BoundAfter p o h
-  bound-of p h t before c since e ends builds shrinks = rw e (run-bound o begun before c since (rw e at t) (rw e at builds) (rw e at shrinks))
+  bound-of p h t before c since e ends builds shrinks =
+      let here : Told o (before ++ c ∷ since) = rw e at t in
+      let more = made-since o begun before c since here in
+      let falls = falls-since o begun before c since here (omega (arith, more build, rw e at builds)) (omega (arith, more shrink, rw e at shrinks)) in
+      rw e (omega (arith, more reflection, more expansion, more contraction))
 
   settled-of : (h : List ℕ) → Told o h → (before round : List ℕ) → h ≡ before ++ round → FullRound o before round → run o h .phase ≡ Ended Settled
   settled-of h t before round e f = rw e (run-settled-when o begun before round (rw e at t) f)

@@ -121,7 +121,7 @@ module _ (rs : List Vertex) (v : Vertex) (s : Search) (inv : Inv rs s) (after : 
     unfolding expandedOn
     expand-step =
         let r = reflectedVertex fr s in
-        better-elim (λ (u : Vertex). Stepped (rs ▹ v) (expansion ∷ []) 0 s (taken expansion u (noted v s))) (winsExpanded (v .cost) fr)
+        better-elim (λ (u : Vertex). Stepped (rs ▹ v) (expansion ∷ []) 0 s (taken expansion u (noted v s))) (winsExpanded fr (v .cost) s)
         (λ e. takes-lower v (known-new rs v) (omega (arith, tests)) (best-falls (s .readings) v (s .best) (idle .some) (omega (arith, tests, reflected-cost))))
         (λ e.
         takes-lower r (Memᴰ·cast (sym (h .reflects)) (best-known (idle .some))) (omega arith)
@@ -146,7 +146,7 @@ module _ (rs : List Vertex) (v : Vertex) (s : Search) (inv : Inv rs s) (after : 
     goes-shrinking side h high =
         let known : Known (s .best ∷ []) (rs ▹ v) = λ w m. Memᴰ·cast (List·Memᴰ·eq-of-singleton m) (best-known (idle .some)) in
         let e = best-stays (s .readings) v (s .best) (idle .some) high in
-        goes-on rs v s inv after _ (s .best ∷ []) _ (record { are = ap (λ (x : Vertex). pack (x ∷ [])) (kept-best side h); known = known }) (idle .some)
+        goes-on rs v s inv after _ (s .best ∷ []) (shrinking (noted v s) .gathered) (record { are = ap (λ (x : Vertex). pack (x ∷ [])) (kept-best side h); known = known }) (idle .some)
         (record { low = omega arith; high = after .sane .atLeast; many = refl; sorted = (tt, tt); leads = rw e; unfinished = omega (arith, idle .unfinished); stood = idle .stood; some = omega arith }) tt
 
     -- an outside point that is not taken is higher than r, an inside one not lower than the worst

@@ -10,7 +10,6 @@ use lib.ListN.{length, getD, take}
 use lib.Seq.{take-all, length-take-le}
 use lib.Dec.{eqb}
 use lib.Ieee.{Float}
-use borrow.Author.Tests.{ne-eqb}
 use Rattle.rules.specs.Simplex.{blank, pack, unpack, insert, costOf, Ordered}
 use Rattle.rules.specs.Stop.{total}
 use Rattle.rules.specs.Accept.{Piece, build, shrink, counted, opened, probedOnce, bestAfter, noted, taken}
@@ -21,6 +20,7 @@ use Rattle.rules.specs.declared.Counts.{Counts}
 use Rattle.rules.specs.declared.Setup.{Setup}
 use Rattle.rules.specs.declared.Search.{Search}
 use Rattle.rules.specs.declared.Phase.{Phase}
+use Rattle.rules.proofs.Tests.{tests, cond-elim}
 use Rattle.rules.proofs.Lists.{mem-take}
 use Rattle.rules.proofs.Order.{length-insert, ordered-insert, mem-insert, total-insert, total-take, ordered-take}
 use Rattle.rules.proofs.Places.{unpack-take}
@@ -116,8 +116,9 @@ module _ (rs : List Vertex) (v : Vertex) (s : Search) (inv : Inv rs s) (after : 
       → Stepped (rs ▹ v) [] 0 s (ongoing p gathered (s .center) (opened 1 (s .counts)))
   unfolding countOf
   goes-on p gs gathered gathers some here fresh =
-      let e : eqb (s .readings) 0 ≡ false = ne-eqb (s .readings) 0 (λ q. omega arith) in
-      goes 0 p gs gathered (s .center) (opened 1 (s .counts)) (omega arith) refl gathers (omega (arith, inv .equation)) (rw e) here (λ q. fresh)
+      let unfinished = s .counts .unfinished in
+      let more : unfinished + 1 ≡ cond (isOpen [] 0 (s .readings)) (unfinished + 1) 0 = cond-elim (λ (k : ℕ). unfinished + 1 ≡ k) (isOpen [] 0 (s .readings)) (λ e. refl) (λ e. absurd (omega (arith, tests))) in
+      goes 0 p gs gathered (s .center) (opened 1 (s .counts)) (omega arith) refl gathers (omega (arith, inv .equation)) more here (λ q. fresh)
 
   -- the first reading of all is not
   pub begins : (p : Phase) (gs : List Vertex) (gathered : Simplex) → Gathers (rs ▹ v) gs gathered → s .readings ≡ 0 → s .counts .unfinished ≡ 0
@@ -125,7 +126,9 @@ module _ (rs : List Vertex) (v : Vertex) (s : Search) (inv : Inv rs s) (after : 
       → Stepped (rs ▹ v) [] 0 s (ongoing p gathered (s .center) (opened 0 (s .counts)))
   unfolding countOf
   begins p gs gathered gathers none closed here fresh =
-      goes 0 p gs gathered (s .center) (opened 0 (s .counts)) (omega arith) refl gathers (omega (arith, inv .equation)) (rw (none, closed)) here (λ q. fresh)
+      let unfinished = s .counts .unfinished in
+      let still : unfinished + 0 ≡ cond (isOpen [] 0 (s .readings)) (unfinished + 1) 0 = cond-elim (λ (k : ℕ). unfinished + 0 ≡ k) (isOpen [] 0 (s .readings)) (λ e. absurd (omega (arith, tests))) (λ e. omega arith) in
+      goes 0 p gs gathered (s .center) (opened 0 (s .counts)) (omega arith) refl gathers (omega (arith, inv .equation)) still here (λ q. fresh)
 
   -- a probe is never open
   pub probes-on : (p : Phase) (gs : List Vertex) (gathered : Simplex) (center : List Float) → Gathers (rs ▹ v) gs gathered → 1 ≤ s .readings → s .counts .unfinished ≡ 0

@@ -26,7 +26,7 @@ module _ (rs : List Vertex) (v : Vertex) (s : Search) (inv : Inv rs s) (after : 
       let known : Known (v ∷ []) (rs ▹ v) = λ w m. Memᴰ·cast (List·Memᴰ·eq-of-singleton m) (known-new rs v) in
       let e = best-falls (s .readings) v (s .best) (idle .some) l in
       probes-on rs v s inv after _ (v ∷ []) _ _ (record { are = refl; known = known }) (idle .some) (idle .unfinished)
-      (record { high = after .sane .atLeast; many = refl; sorted = (tt, tt); leads = λ m. rw e; unfinished = omega (arith, idle .unfinished); first = λ q. absurd (omega (arith, idle .stood)); again = λ m. omega arith; some = λ m. omega arith })
+      (record { high = omega (arith, after .sane .atLeast); many = refl; sorted = (tt, tt); leads = λ m. rw e; unfinished = omega (arith, idle .unfinished); first = λ q. absurd (omega (arith, idle .stood)); again = λ m. omega arith; some = λ m. omega arith })
 
   -- any other goes on to the next, or settles the search
   misses : s .best .cost ≤ v .cost → Stepped (rs ▹ v) [] 1 s (probeMissed p probedSearch)

@@ -1,6 +1,6 @@
 -- Refusal 12 is never given to a search that an opening and calls have made. Assumes nothing.
 use mathlib.Core.Path.{_≡_, refl, sym, ap, _∙_, subst}
-use mathlib.Core.Bool.{Bool, true, false, true≢false, _&&_, _||_}
+use mathlib.Core.Bool.{Bool, true, false, _||_, and-eq-true-iff}
 use mathlib.Core.List.{List, [], _∷_, List·Memᴰ}
 use Prim.Native.Nat.{ℕ, zero, suc, _+_, _-_, _*_, _≤_, _<_}
 use native.Mathlib.Omega.{arith}
@@ -15,27 +15,16 @@ use Rattle.rules.specs.declared.Vertex.{Vertex}
 use Rattle.rules.specs.declared.Search.{Search}
 use Rattle.rules.specs.declared.Phase.{Phase}
 use Rattle.rules.specs.declared.Phase.the-variants.{Building, Reflecting, Expanding, Contracting, Shrinking, Probing, Ended}
+use Rattle.rules.proofs.Tests.{tests}
 use Rattle.rules.proofs.Order.{in-order}
 use Rattle.rules.proofs.Places.{costs-pack}
 use Rattle.rules.proofs.Invariant.{Known, Equation, At, Inv}
 use Rattle.rules.proofs.Stepping.{standing-are, gathered-are}
 use Rattle.rules.proofs.Accepting.{Room}
 
-infixl 35 _&_
--- two tests that hold
-_&_ : {a b : Bool} → a ≡ true → b ≡ true → (a && b) ≡ true
-_&_ p q = rw (p, q)
-
 or-right : (a b : Bool) → b ≡ true → (a || b) ≡ true
 or-right true b h = refl
 or-right false b h = h
-
--- by the equation no count is above the readings
-few : (n k : ℕ) (c : Counts) (budget : ℕ) → 1 ≤ n → Equation n k c → k ≤ budget → soundCounts budget c ≡ true
-few n k c budget l e h =
-    let m : 1 * c .builds ≤ n * c .builds = mul-le-mul-right (c .builds) l in
-    le-leb (c .builds) budget (omega arith) & le-leb (c .reflections) budget (omega arith) & le-leb (c .expansions) budget (omega arith) & le-leb (c .contractions) budget (omega arith)
-    & le-leb (c .shrinks) budget (omega arith) & le-leb (c .probes) budget (omega arith) & le-leb (c .unfinished) budget (omega arith)
 
 first-or-later : (b i : ℕ) → (1 ≤ b → 1 ≤ i) → (eqb b 0 || leb 1 i) ≡ true
 first-or-later zero i h = refl
@@ -43,12 +32,12 @@ first-or-later (suc b) i h = or-right (eqb (suc b) 0) (leb 1 i) (le-leb 1 i (h (
 
 module _ (rs : List Vertex) (s : Search) (inv : Inv rs s) where
   phase-sound : (p : Phase) → At p (s .setup) (s .standing) (inv .vs) (inv .gs) (s .readings) (s .counts) (s .best) → soundPhase (s .setup .n) (s .counts .builds) p ≡ true
-  phase-sound (Building i) h = le-leb i (s .setup .n) (h .high) & first-or-later (s .counts .builds) i (h .again)
+  phase-sound (Building i) h = simp and-eq-true-iff (omega (arith, tests, h .high), first-or-later (s .counts .builds) i (h .again))
   phase-sound Reflecting h = refl
-  phase-sound (Expanding f) h = le-leb f maxCost (omega (arith, inv .noted .low, ap costOf (h .1 .reflects)))
-  phase-sound (Contracting side f) h = le-leb f maxCost (h .1 .low)
-  phase-sound (Shrinking j) h = le-leb 1 j (h .low) & le-leb j (s .setup .n) (h .high)
-  phase-sound (Probing p) h = lt-ltb p (2 * s .setup .n) (h .2)
+  phase-sound (Expanding f) h = omega (arith, tests, inv .noted .low, ap costOf (h .1 .reflects))
+  phase-sound (Contracting side f) h = omega (arith, tests, h .1 .low)
+  phase-sound (Shrinking j) h = simp and-eq-true-iff (omega (arith, tests, h .low, h .high))
+  phase-sound (Probing p) h = omega (arith, tests, h .2)
   phase-sound (Ended cause) h = refl
 
   none-in-order : inOrder (unpack 0 (s .gathered)) ≡ true
@@ -73,19 +62,23 @@ module _ (rs : List Vertex) (s : Search) (inv : Inv rs s) where
   low-costs : (vs : List Vertex) → Known vs rs → (v : Vertex) → List·Memᴰ v vs → v .cost ≤ maxCost
   low-costs vs h v m = inv .noted .fine v (h v m) .low
 
+  -- by the equation no count is above the readings
   pub sound-live : s .readings < s .setup .budget → sound s ≡ true
   unfolding sound
   sound-live room =
       let t = inv .noted .sane in
-      le-leb 1 (s .setup .n) (t .atLeast) & le-leb (s .setup .n) 8 (t .atMost8)
-      & lt-ltb (s .readings) (s .setup .budget) room
-      & few (s .setup .n) (s .readings) (s .counts) (s .setup .budget) (t .atLeast) (inv .equation) (inv .noted .room)
-      & le-leb (s .setup .budget) 1000000 (t .notMuch)
-      & t .rule & phase-sound (s .phase) (inv .phase)
-      & rw standing-list (in-order (inv .vs) (inv .stands .sorted)) & gathered-in-order (s .phase) (inv .phase)
-      & rw (inv .stands .are) (costs-pack (inv .vs) (low-costs (inv .vs) (inv .stands .known)))
-      & rw (inv .gathers .are) (costs-pack (inv .gs) (low-costs (inv .gs) (inv .gathers .known)))
-      & le-leb (s .best .cost) maxCost (inv .noted .low)
+      let builds : 1 * s .counts .builds ≤ s .setup .n * s .counts .builds = mul-le-mul-right (s .counts .builds) (t .atLeast) in
+      let standing : inOrder (standingOf s) ≡ true = rw standing-list (in-order (inv .vs) (inv .stands .sorted)) in
+      simp and-eq-true-iff (
+        (
+          (
+            ((((omega (arith, tests, t .atLeast, t .atMost8, t .notMuch, inv .equation), t .rule), phase-sound (s .phase) (inv .phase)), standing), gathered-in-order (s .phase) (inv .phase)),
+            rw (inv .stands .are) (costs-pack (inv .vs) (low-costs (inv .vs) (inv .stands .known))),
+          ),
+          rw (inv .gathers .are) (costs-pack (inv .gs) (low-costs (inv .gs) (inv .gathers .known))),
+        ),
+        omega (arith, tests, inv .noted .low),
+      )
 
   pub never-damaged : Room s → undamaged s ≡ true
   never-damaged room = go (isEnded (s .phase)) refl

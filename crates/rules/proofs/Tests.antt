@@ -1,10 +1,10 @@
 -- Tests and choices: the facts behind a test's outcome, and what holds of either choice. Assumes nothing.
 use mathlib.Core.Path.{_≡_, refl}
 use mathlib.Core.Logic.{_≢_}
-use mathlib.Core.Bool.{Bool, true, false, cond}
+use mathlib.Core.Bool.{Bool, true, false, cond, not}
 use Prim.Native.Nat.{ℕ}
 use lib.Dec.{eqb}
-use borrow.Author.Tests.{ltb-true, ltb-false, leb-true, leb-false, eqb-true, eqb-false, lt-ltb, le-ltb, le-leb, lt-leb, eq-eqb, ne-eqb}
+use borrow.Author.Tests.{ltb-true, ltb-false, leb-true, leb-false, eqb-true, eqb-false, lt-ltb, le-ltb, le-leb, lt-leb, eq-eqb, ne-eqb, not-true, not-false}
 use Rattle.rules.specs.Accept.{pick, better, spentPhase}
 use Rattle.rules.specs.declared.Vertex.{Vertex}
 use Rattle.rules.specs.declared.Search.{Search}
@@ -18,8 +18,15 @@ eqb-apart a b e = eqb-false a b e
 pub apart-eqb : (a b : ℕ) → a ≢ b → eqb a b ≡ false
 apart-eqb a b h = ne-eqb a b h
 
+-- the same of negated tests
+pub not-apart : (a b : ℕ) → not (eqb a b) ≡ false → a ≡ b
+not-apart a b e = eqb-true a b (not-false (eqb a b) e)
+
+pub not-same : (a b : ℕ) → not (eqb a b) ≡ true → a ≢ b
+not-same a b e = eqb-false a b (not-true (eqb a b) e)
+
 -- the facts that `omega` reads off a test's outcome, and the tests that it proves by a fact
-pub ruleset tests = (ltb-true, ltb-false, leb-true, leb-false, eqb-true, eqb-apart, lt-ltb, le-ltb, le-leb, lt-leb, eq-eqb, apart-eqb)
+pub ruleset tests = (ltb-true, ltb-false, leb-true, leb-false, eqb-true, eqb-apart, lt-ltb, le-ltb, le-leb, lt-leb, eq-eqb, apart-eqb, not-apart, not-same)
 
 -- ---- what holds of both choices holds of the one that the test makes
 

@@ -169,12 +169,12 @@ abbrev pub reflectedVertex : ℕ → Search → Vertex
 reflectedVertex f s = record { point = point (s .setup .n) (reflected (s .setup) (s .standing .points)); cost = f }
 
 -- "take e if fe < fr"
-abbrev pub winsExpanded : ℕ → ℕ → Bool
-winsExpanded fe fr = ltb fe fr
+abbrev pub winsExpanded : ℕ → ℕ → Search → Bool
+winsExpanded fr fe s = ltb fe fr
 
 -- first row, e told: e, "else r"
 unfoldable pub expandedOn : ℕ → Vertex → Search → Search
-expandedOn fr v s = taken expansion (better (winsExpanded (v .cost) fr) v (reflectedVertex fr s)) s
+expandedOn fr v s = taken expansion (better (winsExpanded fr (v .cost) s) v (reflectedVertex fr s)) s
 
 -- "A shrink keeps x1 and asks" for the point at place 2
 abbrev pub shrinking : Search → Search
