@@ -10,11 +10,11 @@ use lib.Dec.{eqb, leb}
 use lib.Ieee.{Float, nan}
 use borrow.Author.Tests.{eqb-true, ne-eqb, eq-eqb}
 use Rattle.rules.specs.Binary64.{_≤ᶠ_}
-use Rattle.rules.specs.Trial.{axis, noAxis, trial}
-use Rattle.rules.specs.Accept.{accept, run}
-use Rattle.rules.specs.Opening.{opening, openVerdict, fresh, check, numberOf}
-use Rattle.rules.specs.Calls.{isEnded, maxCost, undamaged, askVerdict, tellVerdict, bestVerdict, askedBy, toldBy, shownBy, asking, telling, showing}
-use Rattle.rules.specs.History.{Call, ask, tell, best, after1, after, joins, history1, historyFrom, history, reading, EarliestLeast}
+use Rattle.rules.specs.Trial.{noAxis}
+use Rattle.rules.specs.Accept.{run}
+use Rattle.rules.specs.Opening.{opening, fresh, check, numberOf}
+use Rattle.rules.specs.Calls.{isEnded, maxCost, undamaged, askVerdict, tellVerdict, bestVerdict, toldBy, asking, telling, showing}
+use Rattle.rules.specs.History.{Call, tell, best, after1, after, joins, history1, historyFrom, history, reading}
 use Rattle.rules.specs.Claims.{Within, Claims}
 use Rattle.rules.specs.declared.Axis.{Axis}
 use Rattle.rules.specs.declared.Coefficients.{Coefficients}
@@ -24,11 +24,10 @@ use Rattle.rules.specs.declared.Search.{Search}
 use Rattle.rules.specs.declared.Verdict.{Verdict}
 use Rattle.rules.specs.declared.Verdict.the-variants.{Accepted, Refused}
 use Rattle.rules.specs.declared.Refusal.{Refusal}
-use Rattle.rules.specs.declared.Refusal.the-variants.{SearchEnded, CostTooHigh, WrongNumber, NoReading, Damaged}
-use Rattle.rules.proofs.Openings.{opened-verdict, opened-fresh, opened-axis}
-use Rattle.rules.proofs.Histories.{Told}
-use Rattle.rules.proofs.Begun.{Begun}
-use Rattle.rules.proofs.Calling.{asked-verdict, told-verdict, shown-verdict, run-undamaged, all-follow}
+use Rattle.rules.specs.declared.Refusal.the-variants.{SearchEnded, WrongNumber, NoReading, Damaged}
+use Rattle.rules.proofs.Laws.Openings.{opened-verdict, opened-fresh, opened-axis}
+use Rattle.rules.proofs.Laws.Histories.{Told}
+use Rattle.rules.proofs.Runs.Calling.{asked-verdict, told-verdict, shown-verdict, run-undamaged, all-follow}
 use Rattle.rules.proofs.Claim.{opened-begun, claim}
 
 -- ---- the calls' verdicts on a search that is not damaged

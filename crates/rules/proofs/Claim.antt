@@ -1,15 +1,14 @@
 -- Demand 3: the claim about every list of calls on a newly opened search. Assumes nothing.
-use mathlib.Core.Path.{_≡_, refl, sym, ap, subst}
+use mathlib.Core.Path.{_≡_, refl, ap}
 use mathlib.Core.Bool.{false}
 use mathlib.Core.List.{List, [], _∷_, _++_}
-use Prim.Native.Nat.{ℕ, _+_, _*_, _≤_, _<_}
+use Prim.Native.Nat.{ℕ, _<_}
 use native.Mathlib.Omega.{arith}
 use lib.ListN.{length, take}
-use Rattle.rules.specs.Trial.{trial}
 use Rattle.rules.specs.Accept.{Piece, build, reflection, expansion, contraction, shrink, run}
-use Rattle.rules.specs.Opening.{opening, openVerdict, fresh}
+use Rattle.rules.specs.Opening.{opening}
 use Rattle.rules.specs.Calls.{isEnded, standingOf, asking}
-use Rattle.rules.specs.History.{Call, after, history, historyFrom, reading, EarliestLeast}
+use Rattle.rules.specs.History.{Call, after, history, reading, EarliestLeast}
 use Rattle.rules.specs.Tally.{readingsBy, Ends}
 use Rattle.rules.specs.Claims.{Within, BoundAfter, FullRound, Claims}
 use Rattle.rules.specs.declared.Axis.{Axis}
@@ -20,11 +19,11 @@ use Rattle.rules.specs.declared.Search.{Search}
 use Rattle.rules.specs.declared.Phase.the-variants.{Ended}
 use Rattle.rules.specs.declared.Cause.the-variants.{Settled}
 use Rattle.rules.specs.declared.Verdict.the-variants.{Accepted}
-use Rattle.rules.proofs.Openings.{opened-verdict, opened-fresh, opened-sane}
-use Rattle.rules.proofs.Histories.{Told}
-use Rattle.rules.proofs.Invariant.{Equation}
-use Rattle.rules.proofs.Begun.{Begun, fresh-begun, whole-run, run-inv, run-readings, run-builds, run-reflections, run-expansions, run-contractions, run-shrinks, run-probes, run-unfinished, run-standing, run-places, run-vertices, run-first, made-since, falls-since, run-settled-only, run-settled-when, run-within, run-within-told}
-use Rattle.rules.proofs.Calling.{telling-joins, asking-answers, showing-best, all-follow}
+use Rattle.rules.proofs.Laws.Openings.{opened-verdict, opened-fresh, opened-sane}
+use Rattle.rules.proofs.Laws.Histories.{Told}
+use Rattle.rules.proofs.Steps.Invariant.{Equation}
+use Rattle.rules.proofs.Runs.Begun.{Begun, fresh-begun, whole-run, run-inv, run-readings, run-builds, run-reflections, run-expansions, run-contractions, run-shrinks, run-probes, run-unfinished, run-standing, run-places, run-vertices, run-first, made-since, falls-since, run-settled-only, run-settled-when, run-within, run-within-told}
+use Rattle.rules.proofs.Runs.Calling.{telling-joins, asking-answers, showing-best, all-follow}
 
 -- the invariant's equation, once there is a reading
 equation-from : (m n k : ℕ) (c : Counts) → m ≡ n → Equation m k c → 0 < k → k ≡ readingsBy n c

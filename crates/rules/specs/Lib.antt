@@ -10,3 +10,4 @@ pub mod History
 pub mod Tally
 pub mod Claims
 pub mod Examples
+pub mod Cases

@@ -1,6 +1,6 @@
 -- "Refused calls", the rows of the opening: its checks in table order, and the search that it gives.
 use mathlib.Core.Bool.{Bool, true, false, not, _&&_}
-use mathlib.Core.List.{List, [], _∷_, _++_, map}
+use mathlib.Core.List.{List, [], _++_, map}
 use Prim.Native.Nat.{ℕ, zero, suc, _+_, _-_}
 use lib.ListN.{getD, take, replicate}
 use lib.Dec.{leb}

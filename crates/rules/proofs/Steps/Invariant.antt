@@ -1,13 +1,12 @@
 -- The invariant of every search that an opening and calls have made: what it carries, by its phase. Assumes nothing.
 use mathlib.Core.Path.{_≡_}
-use mathlib.Core.Bool.{false}
 use mathlib.Core.List.{List, [], _∷_, map, List·Memᴰ}
-use Prim.Native.Nat.{ℕ, zero, suc, _+_, _-_, _*_, _≤_, _<_}
+use Prim.Native.Nat.{ℕ, _+_, _-_, _*_, _≤_, _<_}
 use lib.ListN.{length, getD, take}
 use lib.Ieee.{nan}
 use Rattle.rules.specs.Simplex.{point, blank, pack, costOf, Ordered}
 use Rattle.rules.specs.Trial.{reflected}
-use Rattle.rules.specs.Calls.{maxCost, isEnded}
+use Rattle.rules.specs.Calls.{maxCost}
 use Rattle.rules.specs.History.{EarliestLeast}
 use Rattle.rules.specs.Tally.{readingsBy}
 use Rattle.rules.specs.declared.Vertex.{Vertex}
@@ -19,7 +18,7 @@ use Rattle.rules.specs.declared.Phase.{Phase}
 use Rattle.rules.specs.declared.Phase.the-variants.{Building, Reflecting, Expanding, Contracting, Shrinking, Probing, Ended}
 use Rattle.rules.specs.declared.Side.{Side}
 use Rattle.rules.specs.declared.Side.the-variants.{Outside, Inside}
-use Rattle.rules.proofs.Openings.{Sane}
+use Rattle.rules.proofs.Laws.Openings.{Sane}
 
 -- every vertex of the first list is one of the second
 abbrev pub Known : List Vertex → List Vertex → Type 0

@@ -1,8 +1,8 @@
 -- What is true of the rules over every accepted history of a newly opened search. Assumes nothing.
 use mathlib.Core.Path.{_≡_, refl, sym, ap, _∙_, subst}
-use mathlib.Core.Bool.{true, false, cond}
-use mathlib.Core.List.{List, [], _∷_, _++_, map, List·Memᴰ, Memᴰ·cast}
-use Prim.Native.Nat.{ℕ, zero, suc, _+_, _-_, _*_, _≤_, _<_}
+use mathlib.Core.Bool.{false, cond}
+use mathlib.Core.List.{List, [], _∷_, _++_, List·Memᴰ, Memᴰ·cast}
+use Prim.Native.Nat.{ℕ, zero, suc, _+_, _*_, _≤_, _<_}
 use native.Mathlib.Omega.{arith}
 use lib.ListN.{length, getD, take, drop, length-append, length-map}
 use lib.Seq.{append-snoc, split-at}
@@ -23,17 +23,16 @@ use Rattle.rules.specs.declared.RuleChoice.{RuleChoice}
 use Rattle.rules.specs.declared.Vertex.{Vertex}
 use Rattle.rules.specs.declared.Setup.{Setup}
 use Rattle.rules.specs.declared.Search.{Search}
-use Rattle.rules.specs.declared.Phase.{Phase}
 use Rattle.rules.specs.declared.Phase.the-variants.{Building, Ended}
 use Rattle.rules.specs.declared.Cause.the-variants.{Settled}
-use Rattle.rules.proofs.Lists.{mem-getD}
-use Rattle.rules.proofs.Openings.{Sane, trial-within}
-use Rattle.rules.proofs.Histories.{told, readingsOf, Told, run-append, made-append, length-readingsOf, costs-readingsOf, getD-readingsOf, mem-readingsOf, reading-append, told-left, told-right}
-use Rattle.rules.proofs.Invariant.{Best, Leads, Inv}
-use Rattle.rules.proofs.Accepting.{Room, accept-step}
-use Rattle.rules.proofs.Running.{Ran, ran, fresh-inv, fresh-room}
-use Rattle.rules.proofs.Sound.{standing-list, never-damaged}
-use Rattle.rules.proofs.Settling.{Rounds, rounds, settles}
+use Rattle.rules.proofs.Laws.Lists.{mem-getD}
+use Rattle.rules.proofs.Laws.Openings.{Sane, trial-within}
+use Rattle.rules.proofs.Laws.Histories.{told, readingsOf, Told, run-append, made-append, length-readingsOf, costs-readingsOf, getD-readingsOf, mem-readingsOf, reading-append, told-left, told-right}
+use Rattle.rules.proofs.Steps.Invariant.{Best, Leads, Inv}
+use Rattle.rules.proofs.Steps.Accepting.{Room, accept-step}
+use Rattle.rules.proofs.Runs.Running.{Ran, ran, fresh-inv, fresh-room}
+use Rattle.rules.proofs.Runs.Sound.{standing-list}
+use Rattle.rules.proofs.Runs.Settling.{rounds, settles}
 
 -- a search as an opening gives it: nothing told, nothing counted
 pub record Begun (o : Search) : Type 0 where

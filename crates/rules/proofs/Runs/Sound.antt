@@ -1,26 +1,25 @@
 -- Refusal 12 is never given to a search that an opening and calls have made. Assumes nothing.
-use mathlib.Core.Path.{_≡_, refl, sym, ap, _∙_, subst}
+use mathlib.Core.Path.{_≡_, refl, ap}
 use mathlib.Core.Bool.{Bool, true, false, _||_, and-eq-true-iff}
-use mathlib.Core.List.{List, [], _∷_, List·Memᴰ}
-use Prim.Native.Nat.{ℕ, zero, suc, _+_, _-_, _*_, _≤_, _<_}
+use mathlib.Core.List.{List, List·Memᴰ}
+use Prim.Native.Nat.{ℕ, zero, suc, _*_, _≤_, _<_}
 use native.Mathlib.Omega.{arith}
 use native.Mathlib.Nat.{mul-le-mul-right}
-use lib.ListN.{length, getD}
+use lib.ListN.{length}
 use lib.Dec.{eqb, leb}
-use borrow.Author.Tests.{le-leb, lt-ltb, eq-eqb, ne-eqb}
+use borrow.Author.Tests.{le-leb}
 use Rattle.rules.specs.Simplex.{upTo, unpack, Ordered, costOf}
-use Rattle.rules.specs.Calls.{isEnded, maxCost, soundPhase, gatheredIn, standingOf, gatheredOf, inOrder, soundCounts, sound, undamaged}
-use Rattle.rules.specs.declared.Counts.{Counts}
+use Rattle.rules.specs.Calls.{isEnded, maxCost, soundPhase, gatheredIn, standingOf, inOrder, sound, undamaged}
 use Rattle.rules.specs.declared.Vertex.{Vertex}
 use Rattle.rules.specs.declared.Search.{Search}
 use Rattle.rules.specs.declared.Phase.{Phase}
 use Rattle.rules.specs.declared.Phase.the-variants.{Building, Reflecting, Expanding, Contracting, Shrinking, Probing, Ended}
-use Rattle.rules.proofs.Tests.{tests}
-use Rattle.rules.proofs.Order.{in-order}
-use Rattle.rules.proofs.Places.{costs-pack}
-use Rattle.rules.proofs.Invariant.{Known, Equation, At, Inv}
-use Rattle.rules.proofs.Stepping.{standing-are, gathered-are}
-use Rattle.rules.proofs.Accepting.{Room}
+use Rattle.rules.proofs.Laws.Tests.{tests}
+use Rattle.rules.proofs.Laws.Order.{in-order}
+use Rattle.rules.proofs.Laws.Places.{costs-pack}
+use Rattle.rules.proofs.Steps.Invariant.{Known, At, Inv}
+use Rattle.rules.proofs.Steps.Stepping.{standing-are, gathered-are}
+use Rattle.rules.proofs.Steps.Accepting.{Room}
 
 or-right : (a b : Bool) → b ≡ true → (a || b) ≡ true
 or-right true b h = refl

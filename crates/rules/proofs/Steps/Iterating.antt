@@ -1,11 +1,10 @@
 -- A reading of an iteration: reflected, expanded or contracted. Assumes nothing.
-use mathlib.Core.Path.{_≡_, refl, sym, ap, _∙_, subst}
-use mathlib.Core.Bool.{Bool, true, false}
+use mathlib.Core.Path.{_≡_, refl, sym, ap, _∙_}
 use mathlib.Core.List.{List, [], _∷_, List·Memᴰ, Memᴰ·cast, Memᴰ·append-left, List·Memᴰ·eq-of-singleton}
-use Prim.Native.Nat.{ℕ, zero, suc, _+_, _-_, _*_, _≤_, _<_}
+use Prim.Native.Nat.{ℕ, _+_, _-_, _≤_, _<_}
 use native.Mathlib.Omega.{arith}
 use native.Mathlib.Nat.{not-suc-le-zero}
-use lib.ListN.{length, getD, take, length-map}
+use lib.ListN.{length, getD, length-map}
 use Rattle.rules.specs.Simplex.{point, blank, place, pack, costOf, Ordered}
 use Rattle.rules.specs.Trial.{reflected}
 use Rattle.rules.specs.Accept.{reflection, expansion, contraction, opened, bestAfter, noted, taken, waiting, f1, fn, row1, row2, row3, winsExpanded, wins, reflectedVertex, reflectedOn, expandedOn, contractedOn, shrinking}
@@ -16,15 +15,15 @@ use Rattle.rules.specs.declared.Search.{Search}
 use Rattle.rules.specs.declared.Side.{Side}
 use Rattle.rules.specs.declared.Side.the-variants.{Outside, Inside}
 use Rattle.rules.specs.declared.Phase.the-variants.{Reflecting, Expanding, Contracting}
-use Rattle.rules.proofs.Tests.{tests, better-elim, pick-elim}
-use Rattle.rules.proofs.Lists.{mem-getD}
-use Rattle.rules.proofs.Order.{first-lower, ordered-at}
-use Rattle.rules.proofs.Places.{place-pack, cost-pack}
-use Rattle.rules.proofs.Invariant.{Known, Leads, Noted, Gathers, Idle, Beside, AtExpand, AtContract, AtShrink, Inv}
-use Rattle.rules.proofs.Noting.{_▹_, known-more, known-new, best-falls, best-stays, leads-on}
-use Rattle.rules.proofs.Finishing.{row1-more, row2-ends, later-rows, contract-ends, contract-more}
-use Rattle.rules.proofs.Stepping.{Stepped, pieces-are, whole}
-use Rattle.rules.proofs.Moving.{takes, goes-on}
+use Rattle.rules.proofs.Laws.Tests.{tests, better-elim, pick-elim}
+use Rattle.rules.proofs.Laws.Lists.{mem-getD}
+use Rattle.rules.proofs.Laws.Order.{first-lower, ordered-at}
+use Rattle.rules.proofs.Laws.Places.{place-pack, cost-pack}
+use Rattle.rules.proofs.Steps.Invariant.{Known, Leads, Noted, Gathers, Idle, Beside, AtExpand, AtContract, Inv}
+use Rattle.rules.proofs.Steps.Noting.{_▹_, known-more, known-new, best-falls, best-stays, leads-on}
+use Rattle.rules.proofs.Laws.Finishing.{row1-more, row2-ends, later-rows, contract-ends, contract-more}
+use Rattle.rules.proofs.Steps.Stepping.{Stepped, pieces-are, whole}
+use Rattle.rules.proofs.Steps.Moving.{takes, goes-on}
 
 -- ---- who is first
 

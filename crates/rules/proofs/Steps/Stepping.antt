@@ -1,11 +1,10 @@
 -- What one accepted reading does, in a form that every phase's proof fills in. Assumes nothing.
-use mathlib.Core.Path.{_≡_, refl, sym, ap, _∙_, subst}
-use mathlib.Core.Bool.{Bool, true, false, cond, not, _&&_}
+use mathlib.Core.Path.{_≡_, refl, sym, _∙_}
+use mathlib.Core.Bool.{Bool, true, false, cond}
 use mathlib.Core.List.{List, [], _∷_, map, List·Memᴰ·not-nil}
-use Prim.Native.Nat.{ℕ, zero, suc, _+_, _-_, _*_, _≤_, _<_}
+use Prim.Native.Nat.{ℕ, zero, suc, _+_, _≤_}
 use native.Mathlib.Omega.{arith}
-use native.Mathlib.Nat.{not-suc-le-zero}
-use lib.ListN.{length, take}
+use lib.ListN.{length}
 use lib.Seq.{take-all}
 use lib.Dec.{eqb}
 use lib.Ieee.{Float}
@@ -23,9 +22,9 @@ use Rattle.rules.specs.declared.Search.{Search}
 use Rattle.rules.specs.declared.Phase.{Phase}
 use Rattle.rules.specs.declared.Phase.the-variants.{Building, Reflecting, Expanding, Contracting, Shrinking, Probing, Ended}
 use Rattle.rules.specs.declared.Cause.the-variants.{Settled, Budget}
-use Rattle.rules.proofs.Places.{Whole, unpack-take}
-use Rattle.rules.proofs.Invariant.{Known, Leads, Noted, Stands, Gathers, Equation, Idle, At, Inv}
-use Rattle.rules.proofs.Noting.{_▹_}
+use Rattle.rules.proofs.Laws.Places.{Whole, unpack-take}
+use Rattle.rules.proofs.Steps.Invariant.{Known, Leads, Noted, Stands, Gathers, Equation, Idle, At, Inv}
+use Rattle.rules.proofs.Steps.Noting.{_▹_}
 
 -- the counts after the pieces of a list, and after so many probes
 pub record Counted (ps : List Piece) (probe : ℕ) (c d : Counts) : Type 0 where

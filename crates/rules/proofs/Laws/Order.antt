@@ -14,8 +14,8 @@ use Rattle.rules.specs.declared.Vertex.{Vertex}
 use Rattle.rules.specs.Simplex.{blank, passes, insert, atMost, Ordered}
 use Rattle.rules.specs.Stop.{total}
 use Rattle.rules.specs.Calls.{inOrder}
-use Rattle.rules.proofs.Tests.{tests, cond-elim}
-use Rattle.rules.proofs.Lists.{mem-getD}
+use Rattle.rules.proofs.Laws.Tests.{tests, cond-elim}
+use Rattle.rules.proofs.Laws.Lists.{mem-getD}
 
 -- of two numbers the first is at most the second, or above it
 pub le-or-lt : (a b : ℕ) → (a ≤ b) ⊎ (b < a)

@@ -14,9 +14,9 @@ use Rattle.rules.specs.Calls.{maxCost}
 use Rattle.rules.specs.History.{EarliestLeast}
 use Rattle.rules.specs.declared.Vertex.{Vertex}
 use Rattle.rules.specs.declared.Setup.{Setup}
-use Rattle.rules.proofs.Tests.{tests, better-elim}
-use Rattle.rules.proofs.Order.{le-or-lt, first-lower, first-stays}
-use Rattle.rules.proofs.Invariant.{Known, Leads, Fine, Best, Noted}
+use Rattle.rules.proofs.Laws.Tests.{tests, better-elim}
+use Rattle.rules.proofs.Laws.Order.{le-or-lt, first-lower, first-stays}
+use Rattle.rules.proofs.Steps.Invariant.{Known, Leads, Fine, Best, Noted}
 
 infixl 40 _▹_
 -- the readings, and a new one after them

@@ -1,11 +1,11 @@
 -- Laws of `finishes`: which piece a reading ends, by the facts of its phase. Assumes nothing.
-use mathlib.Core.Path.{_≡_, refl}
+use mathlib.Core.Path.{_≡_}
 use mathlib.Core.Logic.{_≢_}
 use mathlib.Core.Bool.{true, false}
-use mathlib.Core.List.{List, [], _∷_}
+use mathlib.Core.List.{[], _∷_}
 use Prim.Native.Nat.{ℕ, _≤_, _<_}
 use borrow.Author.Tests.{lt-ltb, le-ltb, eq-eqb, ne-eqb}
-use Rattle.rules.specs.Accept.{Piece, build, reflection, contraction, shrink, f1, fn, wins}
+use Rattle.rules.specs.Accept.{build, reflection, contraction, shrink, f1, fn, wins}
 use Rattle.rules.specs.Tally.{finishes}
 use Rattle.rules.specs.declared.Search.{Search}
 use Rattle.rules.specs.declared.Side.{Side}

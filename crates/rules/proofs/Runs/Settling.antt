@@ -3,7 +3,7 @@ use mathlib.Core.Path.{_≡_, refl, sym, ap, _∙_, subst}
 use mathlib.Core.Bool.{true, false, true≢false}
 use mathlib.Core.List.{List, [], _∷_, _++_, append-assoc, append-nil}
 use mathlib.Core.Logic.{_≢_, ⊎-elim}
-use Prim.Native.Nat.{ℕ, zero, suc, _+_, _-_, _*_, _≤_, _<_, suc-le-suc}
+use Prim.Native.Nat.{ℕ, zero, suc, _+_, _*_, _≤_, _<_, suc-le-suc}
 use native.Mathlib.Omega.{arith}
 use native.Mathlib.Nat.{not-suc-le-zero}
 use lib.ListN.{length, getD, length-append}
@@ -18,12 +18,12 @@ use Rattle.rules.specs.declared.Search.{Search}
 use Rattle.rules.specs.declared.Phase.{Phase}
 use Rattle.rules.specs.declared.Phase.the-variants.{Building, Reflecting, Expanding, Contracting, Shrinking, Probing, Ended}
 use Rattle.rules.specs.declared.Cause.the-variants.{Settled, Budget}
-use Rattle.rules.proofs.Tests.{tests, pick-elim, spent-elim}
-use Rattle.rules.proofs.Histories.{told, Told, run-append}
-use Rattle.rules.proofs.Invariant.{Inv, Idle}
-use Rattle.rules.proofs.Noting.{_▹_, best-stays, below-snoc, old-cost, new-cost}
-use Rattle.rules.proofs.Stepping.{Fresh}
-use Rattle.rules.proofs.Accepting.{Room, accept-step, accept-room}
+use Rattle.rules.proofs.Laws.Tests.{tests, pick-elim, spent-elim}
+use Rattle.rules.proofs.Laws.Histories.{told, Told, run-append}
+use Rattle.rules.proofs.Steps.Invariant.{Inv}
+use Rattle.rules.proofs.Steps.Noting.{_▹_, best-stays, below-snoc, old-cost, new-cost}
+use Rattle.rules.proofs.Steps.Stepping.{Fresh}
+use Rattle.rules.proofs.Steps.Accepting.{Room, accept-step, accept-room}
 
 -- ---- a probe told
 

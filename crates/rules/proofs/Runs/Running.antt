@@ -1,8 +1,7 @@
 -- The rules over a whole history: the invariant, the counts and the falling sum. Assumes nothing.
-use mathlib.Core.Path.{_≡_, refl, sym, ap, _∙_, subst}
-use mathlib.Core.Bool.{false}
+use mathlib.Core.Path.{_≡_, refl, ap, _∙_}
 use mathlib.Core.List.{List, [], _∷_, _++_, append-nil, List·Memᴰ·not-nil}
-use Prim.Native.Nat.{ℕ, zero, suc, _+_, _-_, _*_, _≤_, _<_}
+use Prim.Native.Nat.{ℕ, _+_, _≤_}
 use native.Mathlib.Omega.{arith}
 use native.Mathlib.Nat.{not-suc-le-zero}
 use lib.Seq.{append-snoc}
@@ -16,12 +15,12 @@ use Rattle.rules.specs.declared.RuleChoice.{RuleChoice}
 use Rattle.rules.specs.declared.Counts.{Counts}
 use Rattle.rules.specs.declared.Vertex.{Vertex}
 use Rattle.rules.specs.declared.Search.{Search}
-use Rattle.rules.proofs.Openings.{Sane}
-use Rattle.rules.proofs.Histories.{told, readingsOf, Told, countOf-append}
-use Rattle.rules.proofs.Invariant.{Inv}
-use Rattle.rules.proofs.Noting.{_▹_}
-use Rattle.rules.proofs.Stepping.{Counted, Stepped, othersIn, standingCosts}
-use Rattle.rules.proofs.Accepting.{Room, accept-step, accept-room}
+use Rattle.rules.proofs.Laws.Openings.{Sane}
+use Rattle.rules.proofs.Laws.Histories.{told, readingsOf, Told, countOf-append}
+use Rattle.rules.proofs.Steps.Invariant.{Inv}
+use Rattle.rules.proofs.Steps.Noting.{_▹_}
+use Rattle.rules.proofs.Steps.Stepping.{Counted, Stepped, othersIn, standingCosts}
+use Rattle.rules.proofs.Steps.Accepting.{Room, accept-step, accept-room}
 
 -- ---- counts of one list of pieces after another
 

@@ -1,18 +1,17 @@
 -- The two ways in which a reading can go: a point replaces the worst vertex, or the piece goes on. Assumes nothing.
-use mathlib.Core.Path.{_≡_, refl, sym, ap, _∙_, subst}
-use mathlib.Core.Bool.{Bool, true, false, cond}
+use mathlib.Core.Path.{_≡_, refl, _∙_}
+use mathlib.Core.Bool.{cond}
 use mathlib.Core.List.{List, [], _∷_, map, List·Memᴰ, Memᴰ·cast}
 use mathlib.Core.Logic.{⊎-elim}
-use Prim.Native.Nat.{ℕ, zero, suc, _+_, _-_, _*_, _≤_, _<_}
+use Prim.Native.Nat.{ℕ, zero, suc, _+_, _≤_, _<_}
 use native.Mathlib.Omega.{arith}
 use native.Mathlib.Nat.{not-suc-le-zero}
 use lib.ListN.{length, getD, take}
-use lib.Seq.{take-all, length-take-le}
-use lib.Dec.{eqb}
+use lib.Seq.{length-take-le}
 use lib.Ieee.{Float}
-use Rattle.rules.specs.Simplex.{blank, pack, unpack, insert, costOf, Ordered}
+use Rattle.rules.specs.Simplex.{blank, unpack, insert, costOf}
 use Rattle.rules.specs.Stop.{total}
-use Rattle.rules.specs.Accept.{Piece, build, shrink, counted, opened, probedOnce, bestAfter, noted, taken}
+use Rattle.rules.specs.Accept.{Piece, counted, opened, probedOnce, bestAfter, noted, taken}
 use Rattle.rules.specs.Tally.{countOf, isOpen}
 use Rattle.rules.specs.declared.Vertex.{Vertex}
 use Rattle.rules.specs.declared.Simplex.{Simplex}
@@ -20,13 +19,13 @@ use Rattle.rules.specs.declared.Counts.{Counts}
 use Rattle.rules.specs.declared.Setup.{Setup}
 use Rattle.rules.specs.declared.Search.{Search}
 use Rattle.rules.specs.declared.Phase.{Phase}
-use Rattle.rules.proofs.Tests.{tests, cond-elim}
-use Rattle.rules.proofs.Lists.{mem-take}
-use Rattle.rules.proofs.Order.{length-insert, ordered-insert, mem-insert, total-insert, total-take, ordered-take}
-use Rattle.rules.proofs.Places.{unpack-take}
-use Rattle.rules.proofs.Invariant.{Known, Leads, Noted, Stands, Gathers, Equation, At, Inv}
-use Rattle.rules.proofs.Noting.{_▹_, known-more}
-use Rattle.rules.proofs.Stepping.{Counted, Stepped, Fresh, readingsIn, othersIn, standingCosts, standing-are, whole, finish}
+use Rattle.rules.proofs.Laws.Tests.{tests, cond-elim}
+use Rattle.rules.proofs.Laws.Lists.{mem-take}
+use Rattle.rules.proofs.Laws.Order.{length-insert, ordered-insert, mem-insert, total-insert, total-take, ordered-take}
+use Rattle.rules.proofs.Laws.Places.{unpack-take}
+use Rattle.rules.proofs.Steps.Invariant.{Known, Leads, Noted, Stands, Gathers, Equation, At, Inv}
+use Rattle.rules.proofs.Steps.Noting.{_▹_, known-more}
+use Rattle.rules.proofs.Steps.Stepping.{Counted, Stepped, Fresh, readingsIn, othersIn, standingCosts, standing-are, whole, finish}
 
 -- ---- laws that both ways share
 

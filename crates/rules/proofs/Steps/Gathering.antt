@@ -1,26 +1,23 @@
 -- A reading of a build or of a shrink. Assumes nothing.
-use mathlib.Core.Path.{_≡_, refl, sym, ap, _∙_, subst}
-use mathlib.Core.Bool.{Bool, true, false}
-use mathlib.Core.List.{List, [], _∷_, map, List·Memᴰ}
-use Prim.Native.Nat.{ℕ, zero, suc, _+_, _-_, _*_, _≤_, _<_}
+use mathlib.Core.Path.{_≡_, refl, ap, _∙_}
+use mathlib.Core.List.{List, [], _∷_}
+use Prim.Native.Nat.{ℕ, zero, suc, _+_, _≤_, _<_}
 use native.Mathlib.Omega.{arith}
-use native.Mathlib.Nat.{not-suc-le-zero}
-use lib.ListN.{length, getD, take, drop}
+use lib.ListN.{length}
 use lib.Ieee.{Float}
-use Rattle.rules.specs.Simplex.{pointOf, pack, unpack, insert}
-use Rattle.rules.specs.Accept.{Piece, build, shrink, opened, bestAfter, noted, isLast, finished, waiting, withGathered, firstOpen, builtOn, shrunkOn, shrunkPoints}
+use Rattle.rules.specs.Simplex.{pack, unpack, insert}
+use Rattle.rules.specs.Accept.{build, shrink, opened, bestAfter, noted, isLast, finished, waiting, withGathered, firstOpen, builtOn, shrunkOn}
 use Rattle.rules.specs.Tally.{countOf, finishes}
 use Rattle.rules.specs.declared.Vertex.{Vertex}
 use Rattle.rules.specs.declared.Search.{Search}
-use Rattle.rules.specs.declared.Counts.{Counts}
 use Rattle.rules.specs.declared.Phase.the-variants.{Building, Shrinking}
-use Rattle.rules.proofs.Tests.{tests, pick-elim}
-use Rattle.rules.proofs.Order.{length-insert, ordered-insert}
-use Rattle.rules.proofs.Invariant.{Known, Leads, Noted, Gathers, AtBuild, AtShrink, Inv}
-use Rattle.rules.proofs.Noting.{_▹_, known-more, known-new, leads-on}
-use Rattle.rules.proofs.Stepping.{Stepped, pieces-are, gathered-are, finish}
-use Rattle.rules.proofs.Finishing.{build-last, build-more, shrink-last, shrink-more}
-use Rattle.rules.proofs.Moving.{known-insert, goes-on, begins}
+use Rattle.rules.proofs.Laws.Tests.{tests, pick-elim}
+use Rattle.rules.proofs.Laws.Order.{length-insert, ordered-insert}
+use Rattle.rules.proofs.Steps.Invariant.{Leads, Noted, Gathers, AtBuild, AtShrink, Inv}
+use Rattle.rules.proofs.Steps.Noting.{_▹_, known-more, known-new, leads-on}
+use Rattle.rules.proofs.Steps.Stepping.{Stepped, pieces-are, gathered-are, finish}
+use Rattle.rules.proofs.Laws.Finishing.{build-last, build-more, shrink-last, shrink-more}
+use Rattle.rules.proofs.Steps.Moving.{known-insert, goes-on, begins}
 
 -- a list with no element
 empty : (vs : List Vertex) → length vs ≡ 0 → vs ≡ []

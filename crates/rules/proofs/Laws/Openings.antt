@@ -4,14 +4,13 @@ use mathlib.Core.Bool.{Bool, true, false, true≢false, false≢true, and-eq-tru
 use mathlib.Core.List.{List, [], _∷_}
 use mathlib.Core.Logic.{_↔_, ⊎-elim}
 use Prim.Native.Nat.{ℕ, zero, suc, suc-le-suc, _+_, _-_, _≤_, _<_}
-use native.Mathlib.Nat.{not-suc-le-zero, le-of-suc-le-suc, eq-or-lt-of-le}
+use native.Mathlib.Nat.{eq-or-lt-of-le}
 use native.Mathlib.Omega.{arith}
-use lib.ListN.{length, getD, take, replicate, length-append, length-take, List·getD-append}
-use lib.Seq.{getD-at, getD-take}
-use lib.Ieee.{Float, nan, lt}
+use lib.ListN.{length, getD, take, replicate, length-take, List·getD-append}
+use lib.Seq.{getD-take}
+use lib.Ieee.{Float, lt}
 use borrow.Author.Tests.{leb-true}
-use Rattle.rules.specs.Binary64.{0ᶠ, _≤ᶠ_, _<ᶠ_}
-use Rattle.rules.specs.Simplex.{upTo, point}
+use Rattle.rules.specs.Binary64.{_≤ᶠ_, _<ᶠ_}
 use Rattle.rules.specs.Trial.{noAxis, axis, clamped, reflected, expanded, contracted, shrunk, built, probed, coordinate, trial}
 use Rattle.rules.specs.Opening.{check, inThreshold, axisChecks, axesChecks, ruleOf, zeroAxis, keep, fresh, openedBy, openVerdict, opening}
 use Rattle.rules.specs.Calls.{soundRule, isEnded}
@@ -29,8 +28,8 @@ use Rattle.rules.specs.declared.Search.{Search}
 use Rattle.rules.specs.declared.Verdict.{Verdict}
 use Rattle.rules.specs.declared.Verdict.the-variants.{Accepted, Refused}
 use Rattle.rules.specs.declared.Refusal.{Refusal}
-use Rattle.rules.proofs.Lists.{getD-point}
-use Rattle.rules.proofs.Clamp.{lt-le, clamp-low, clamp-high}
+use Rattle.rules.proofs.Laws.Lists.{getD-point}
+use Rattle.rules.proofs.Laws.Clamp.{lt-le, clamp-low, clamp-high}
 
 -- ---- checks that pass
 

@@ -1,5 +1,5 @@
 -- A reading of a probe round. Assumes nothing.
-use mathlib.Core.Path.{_≡_, refl}
+use mathlib.Core.Path.{refl}
 use mathlib.Core.List.{List, [], _∷_, Memᴰ·cast, List·Memᴰ·eq-of-singleton}
 use Prim.Native.Nat.{ℕ, _+_, _*_, _≤_, _<_}
 use native.Mathlib.Omega.{arith}
@@ -7,12 +7,12 @@ use Rattle.rules.specs.Simplex.{Ordered}
 use Rattle.rules.specs.Accept.{probedOnce, bestAfter, noted, withCounts, restarted, isFull, probeMissed, endsRound, probedOn}
 use Rattle.rules.specs.declared.Vertex.{Vertex}
 use Rattle.rules.specs.declared.Search.{Search}
-use Rattle.rules.proofs.Tests.{tests, pick-elim}
-use Rattle.rules.proofs.Invariant.{Known, Leads, Noted, Idle, Inv}
-use Rattle.rules.proofs.Noting.{_▹_, known-new, best-falls, best-stays}
-use Rattle.rules.proofs.Stepping.{Stepped}
-use Rattle.rules.proofs.Moving.{probes-on}
-use Rattle.rules.proofs.Iterating.{gathers-more}
+use Rattle.rules.proofs.Laws.Tests.{tests, pick-elim}
+use Rattle.rules.proofs.Steps.Invariant.{Known, Leads, Noted, Idle, Inv}
+use Rattle.rules.proofs.Steps.Noting.{_▹_, known-new, best-falls, best-stays}
+use Rattle.rules.proofs.Steps.Stepping.{Stepped}
+use Rattle.rules.proofs.Steps.Moving.{probes-on}
+use Rattle.rules.proofs.Steps.Iterating.{gathers-more}
 
 module _ (rs : List Vertex) (v : Vertex) (s : Search) (inv : Inv rs s) (after : Noted (rs ▹ v) (s .setup) (s .readings + 1) (bestAfter (s .readings) v (s .best)))
     (p : ℕ) (idle : Idle 0 (inv .gs) (s .readings) (s .counts)) (leads : Leads (inv .vs) (s .best)) (low : p < 2 * s .setup .n) where

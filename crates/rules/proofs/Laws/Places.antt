@@ -12,7 +12,7 @@ use Rattle.rules.specs.declared.Simplex.{Simplex}
 use Rattle.rules.specs.declared.Vertex.{Vertex}
 use Rattle.rules.specs.Simplex.{upTo, blank, costOf, flat, store, pack, place, unpack}
 use Rattle.rules.specs.Calls.{maxCost, allCosts}
-use Rattle.rules.proofs.Lists.{length-upTo, mem-getD}
+use Rattle.rules.proofs.Laws.Lists.{length-upTo, mem-getD}
 
 -- each point has eight numbers
 abbrev pub Whole : List Vertex → Type 0

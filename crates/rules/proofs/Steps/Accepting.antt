@@ -1,8 +1,8 @@
 -- An accepted reading keeps the invariant, in every phase. Assumes nothing.
-use mathlib.Core.Path.{_≡_, refl, sym, ap, _∙_, subst}
+use mathlib.Core.Path.{_≡_, refl, sym, _∙_, subst}
 use mathlib.Core.Bool.{true, false, true≢false}
 use mathlib.Core.List.{List}
-use Prim.Native.Nat.{ℕ, zero, suc, _+_, _-_, _*_, _≤_, _<_}
+use Prim.Native.Nat.{ℕ, _+_, _≤_, _<_}
 use native.Mathlib.Omega.{arith}
 use Rattle.rules.specs.Simplex.{point}
 use Rattle.rules.specs.Trial.{trial, coordinate}
@@ -10,23 +10,20 @@ use Rattle.rules.specs.Accept.{Piece, bestAfter, noted, advanced, spentP
 use Rattle.rules.specs.Calls.{maxCost, isEnded}
 use Rattle.rules.specs.Tally.{finishes, isProbe}
 use Rattle.rules.specs.declared.Vertex.{Vertex}
-use Rattle.rules.specs.declared.Simplex.{Simplex}
-use Rattle.rules.specs.declared.Counts.{Counts}
-use Rattle.rules.specs.declared.Setup.{Setup}
 use Rattle.rules.specs.declared.Search.{Search}
 use Rattle.rules.specs.declared.Phase.{Phase}
 use Rattle.rules.specs.declared.Phase.the-variants.{Building, Reflecting, Expanding, Contracting, Shrinking, Probing, Ended}
 use Rattle.rules.specs.declared.Cause.{Cause}
 use Rattle.rules.specs.declared.Cause.the-variants.{Budget}
-use Rattle.rules.proofs.Tests.{tests, spent-elim}
-use Rattle.rules.proofs.Lists.{length-point, point-again}
-use Rattle.rules.proofs.Histories.{told}
-use Rattle.rules.proofs.Invariant.{Fine, Noted, At, Inv}
-use Rattle.rules.proofs.Noting.{_▹_, note}
-use Rattle.rules.proofs.Stepping.{Stepped, Fresh}
-use Rattle.rules.proofs.Gathering.{build-step, shrink-step}
-use Rattle.rules.proofs.Iterating.{reflect-step, expand-step, contract-step}
-use Rattle.rules.proofs.Probing.{probe-step}
+use Rattle.rules.proofs.Laws.Tests.{tests, spent-elim}
+use Rattle.rules.proofs.Laws.Lists.{length-point, point-again}
+use Rattle.rules.proofs.Laws.Histories.{told}
+use Rattle.rules.proofs.Steps.Invariant.{Fine, Noted, At, Inv}
+use Rattle.rules.proofs.Steps.Noting.{_▹_, note}
+use Rattle.rules.proofs.Steps.Stepping.{Stepped, Fresh}
+use Rattle.rules.proofs.Steps.Gathering.{build-step, shrink-step}
+use Rattle.rules.proofs.Steps.Iterating.{reflect-step, expand-step, contract-step}
+use Rattle.rules.proofs.Steps.Probing.{probe-step}
 
 -- ---- every phase
 

@@ -1,31 +1,27 @@
 -- Calls on a search of the rules over an accepted history, and lists of them. Assumes nothing.
-use mathlib.Core.Path.{_≡_, refl, sym, ap, _∙_, subst}
-use mathlib.Core.Bool.{Bool, true, false, true≢false, cond, not, _&&_, and-eq-true-iff}
+use mathlib.Core.Path.{_≡_, refl, sym, ap, _∙_}
+use mathlib.Core.Bool.{Bool, true, false, true≢false, cond, and-eq-true-iff}
 use mathlib.Core.List.{List, [], _∷_, _++_}
 use mathlib.Core.Logic.{_↔_}
-use Prim.Native.Nat.{ℕ, zero, suc, _+_, _≤_, _<_}
+use Prim.Native.Nat.{ℕ, _+_, _<_}
 use native.Mathlib.Omega.{arith}
 use lib.ListN.{length, getD}
 use lib.Ieee.{nan}
 use Rattle.rules.specs.Simplex.{point}
-use lib.Dec.{eqb, leb}
 use borrow.Author.Tests.{ne-eqb, not-true}
 use Rattle.rules.specs.Trial.{trial}
-use Rattle.rules.specs.Accept.{accept, run}
-use Rattle.rules.specs.Opening.{check}
-use Rattle.rules.specs.Calls.{isEnded, maxCost, undamaged, askVerdict, tellVerdict, bestVerdict, askedBy, toldBy, shownBy, asking, telling, showing}
+use Rattle.rules.specs.Accept.{run}
+use Rattle.rules.specs.Calls.{isEnded, undamaged, askVerdict, tellVerdict, bestVerdict, askedBy, toldBy, shownBy, asking, telling, showing}
 use Rattle.rules.specs.History.{Call, ask, tell, best, after1, after, joins, history1, historyFrom, reading, EarliestLeast}
 use Rattle.rules.specs.declared.Vertex.{Vertex}
 use Rattle.rules.specs.declared.Search.{Search}
 use Rattle.rules.specs.declared.Verdict.{Verdict}
 use Rattle.rules.specs.declared.Verdict.the-variants.{Accepted, Refused}
-use Rattle.rules.specs.declared.Refusal.{Refusal}
-use Rattle.rules.specs.declared.Refusal.the-variants.{SearchEnded, CostTooHigh, WrongNumber, NoReading, Damaged}
-use Rattle.rules.proofs.Tests.{tests}
-use Rattle.rules.proofs.Openings.{check-iff}
-use Rattle.rules.proofs.Histories.{Told, told-snoc, readingsOf, run-append}
-use Rattle.rules.proofs.Sound.{never-damaged}
-use Rattle.rules.proofs.Begun.{Begun, whole-run, run-readings, run-best, best-shape}
+use Rattle.rules.proofs.Laws.Tests.{tests}
+use Rattle.rules.proofs.Laws.Openings.{check-iff}
+use Rattle.rules.proofs.Laws.Histories.{Told, told-snoc, readingsOf, run-append}
+use Rattle.rules.proofs.Runs.Sound.{never-damaged}
+use Rattle.rules.proofs.Runs.Begun.{Begun, whole-run, run-readings, run-best, best-shape}
 
 -- ---- answers by their verdict
 
