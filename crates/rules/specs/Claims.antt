@@ -16,7 +16,7 @@ use Rattle.rules.specs.Calls.{standingOf, showing, asking, telling, isEn
 use Rattle.rules.specs.History.{joins, reading, EarliestLeast}
 use Rattle.rules.specs.Tally.{made, others, probesIn, openIn, readingsBy, Ends, EndsIn}
 use Rattle.rules.specs.declared.Phase.the-variants.{Probing, Ended}
-use Rattle.rules.specs.declared.Cause.the-variants.{Settled}
+use Rattle.rules.specs.declared.Cause.the-variants.{Settled, Budget}
 use Rattle.rules.specs.declared.Verdict.the-variants.{Accepted}
 use Rattle.rules.specs.declared.Vertex.{Vertex}
 use Rattle.rules.specs.declared.Setup.{Setup}
@@ -79,6 +79,8 @@ pub record Claims (o : Search) (h : List ℕ) (s : Search) : Type 0 where
   -- settled exactly when a probe round has been told in full and none was lower
   pub settledOnly : s .phase ≡ Ended Settled → (before : List ℕ) × (round : List ℕ) × (h ≡ before ++ round) × FullRound o before round
   pub settledWhen : (before round : List ℕ) → h ≡ before ++ round → FullRound o before round → s .phase ≡ Ended Settled
+  -- "when the number of accepted readings reaches it, the search ends with cause budget, unless that reading settled it"
+  pub spent : (s .phase ≡ Ended Budget) ↔ ((length h ≡ o .setup .budget) × (s .phase ≡ Ended Settled → ⊥))
   -- every trial lies within the axis limits: those told, and the one that is asked
   pub withinTold : (k : ℕ) → k < length h → Within (o .setup) (reading o h k .point)
   pub withinAsked : isEnded (s .phase) ≡ false → Within (o .setup) (asking s .point)

@@ -1,6 +1,7 @@
 -- What is true of the rules over every accepted history of a newly opened search. Assumes nothing.
 use mathlib.Core.Path.{_≡_, refl, sym, ap, _∙_, subst}
-use mathlib.Core.Bool.{false, cond}
+use mathlib.Core.Bool.{Bool, true, false, false≢true, cond}
+use mathlib.Core.Logic.{_↔_}
 use mathlib.Core.List.{List, [], _∷_, _++_, List·Memᴰ, Memᴰ·cast}
 use Prim.Native.Nat.{ℕ, zero, suc, _+_, _*_, _≤_, _<_}
 use native.Mathlib.Omega.{arith}
@@ -23,8 +24,9 @@ use Rattle.rules.specs.declared.RuleChoice.{RuleChoice}
 use Rattle.rules.specs.declared.Vertex.{Vertex}
 use Rattle.rules.specs.declared.Setup.{Setup}
 use Rattle.rules.specs.declared.Search.{Search}
-use Rattle.rules.specs.declared.Phase.the-variants.{Building, Ended}
-use Rattle.rules.specs.declared.Cause.the-variants.{Settled}
+use Rattle.rules.specs.declared.Phase.{Phase}
+use Rattle.rules.specs.declared.Phase.the-variants.{Building, Reflecting, Expanding, Contracting, Shrinking, Probing, Ended}
+use Rattle.rules.specs.declared.Cause.the-variants.{Settled, Budget}
 use Rattle.rules.proofs.Laws.Lists.{mem-getD}
 use Rattle.rules.proofs.Laws.Openings.{Sane, trial-within}
 use Rattle.rules.proofs.Laws.Histories.{told, readingsOf, Told, run-append, made-append, length-readingsOf, costs-readingsOf, getD-readingsOf, mem-readingsOf, reading-append, told-left, told-right}
@@ -44,6 +46,17 @@ pub record Begun (o : Search) : Type 0 where
 pub fresh-begun : (n : ℕ) (axes : List Axis) (rule : RuleChoice) (c : Coefficients) (budget : ℕ) → Sane (fresh n axes rule c budget .setup) → Begun (fresh n axes rule c budget)
 unfolding fresh
 fresh-begun n axes rule c budget h = record { inv = fresh-inv n axes rule c budget h; room = fresh-room n axes rule c budget h; counts = refl; phase = refl }
+
+-- a search that has ended without settling has ended by its budget
+by-budget : (p : Phase) → isEnded p ≡ true → (p ≡ Ended Settled → ⊥) → p ≡ Ended Budget
+by-budget (Building i) e d = absurd (false≢true e)
+by-budget Reflecting e d = absurd (false≢true e)
+by-budget (Expanding f) e d = absurd (false≢true e)
+by-budget (Contracting side f) e d = absurd (false≢true e)
+by-budget (Shrinking j) e d = absurd (false≢true e)
+by-budget (Probing p) e d = absurd (false≢true e)
+by-budget (Ended Settled) e d = absurd (d refl)
+by-budget (Ended Budget) e d = refl
 
 module _ (o : Search) (begun : Begun o) where
   module _ (h : List ℕ) (t : Told o h) where
@@ -168,6 +181,24 @@ module _ (o : Search) (begun : Begun o) where
       let many : 0 + length round ≡ 2 * s .setup .n = rw (r .kept) (omega (arith, f .full)) in
       rw (run-append o before round)
       (settles (readingsOf o before) s (r .inv) (r .room) round 0 (f .begins) many (omega (arith, r .inv .noted .sane .atLeast)) (f .noneLower) (told-right o before round t))
+
+  -- ---- the budget
+
+  pub run-spent : (h : List ℕ) → Told o h → (run o h .phase ≡ Ended Budget) ↔ ((length h ≡ o .setup .budget) × (run o h .phase ≡ Ended Settled → ⊥))
+  run-spent h t =
+      let r = whole-run h t in
+      let n = run-readings h t in
+      let b : run o h .setup .budget ≡ o .setup .budget = ap (λ (t : Setup). t .budget) (r .kept) in (
+        (λ e. (let at : run o h .readings ≡ run o h .setup .budget = rw e at (r .inv .phase) in omega arith, λ d. let z : _≡_ {A = ℕ} 0 1 = cc in omega arith)),
+        λ g. by-budget (run o h .phase) (go (isEnded (run o h .phase)) refl (g .0)) (g .1),
+      )
+    where
+      go : (e : Bool) → isEnded (run o h .phase) ≡ e → length h ≡ o .setup .budget → isEnded (run o h .phase) ≡ true
+      go true e l = e
+      go false e l =
+          let r = whole-run h t in
+          let b : run o h .setup .budget ≡ o .setup .budget = ap (λ (t : Setup). t .budget) (r .kept) in
+          absurd (omega (arith, r .room e, run-readings h t))
 
   -- ---- within the limits
 

@@ -54,11 +54,12 @@ spent-cases P (Ended cause) b e = e cause refl
 spent-ends : (p : Phase) → isEnded (spentPhase true p) ≡ true
 spent-ends p = spent-cases (λ (q : Phase). isEnded q ≡ true) p refl (λ cause e. refl)
 
--- nothing is asked of an ended search
-spent-at : (u : Search) (vs gs : List Vertex) → At (u .phase) (u .setup) (u .standing) vs gs (u .readings) (u .counts) (u .best) → At (budgeted u .phase) (u .setup) (u .standing) vs gs (u .readings) (u .counts) (u .best)
+-- the search ends where its readings reach the budget
+spent-at : (u : Search) (vs gs : List Vertex) → At (u .phase) (u .setup) (u .standing) vs gs (u .readings) (u .counts) (u .best)
+    → At (budgeted u .phase) (u .setup) (u .standing) vs gs (u .readings) (u .counts) (u .best)
 spent-at u vs gs h =
     let P : Phase → Type 0 = λ p. At p (u .setup) (u .standing) vs gs (u .readings) (u .counts) (u .best) in
-    spent-elim P (isSpent u) (λ e. spent-cases P (u .phase) tt (λ cause q. tt)) (λ e. h)
+    spent-elim P (isSpent u) (λ e. spent-cases P (u .phase) (omega (arith, tests)) (λ cause q. subst P q h)) (λ e. h)
 
 -- the budget settles no search
 spent-fresh : (u : Search) → Fresh (u .phase) → Fresh (budgeted u .phase)

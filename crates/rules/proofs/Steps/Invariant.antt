@@ -16,6 +16,7 @@ use Rattle.rules.specs.declared.Setup.{Setup}
 use Rattle.rules.specs.declared.Search.{Search}
 use Rattle.rules.specs.declared.Phase.{Phase}
 use Rattle.rules.specs.declared.Phase.the-variants.{Building, Reflecting, Expanding, Contracting, Shrinking, Probing, Ended}
+use Rattle.rules.specs.declared.Cause.the-variants.{Settled, Budget}
 use Rattle.rules.specs.declared.Side.{Side}
 use Rattle.rules.specs.declared.Side.the-variants.{Outside, Inside}
 use Rattle.rules.proofs.Laws.Openings.{Sane}
@@ -118,7 +119,8 @@ At (Expanding f) t standing vs gs readings c best = Idle 1 gs readings c × AtEx
 At (Contracting side f) t standing vs gs readings c best = Idle 1 gs readings c × AtContract side f (t .n) vs best
 At (Shrinking j) t standing vs gs readings c best = AtShrink j (t .n) gs readings c best
 At (Probing p) t standing vs gs readings c best = Idle 0 gs readings c × Leads vs best × (p < 2 * t .n)
-At (Ended cause) t standing vs gs readings c best = Unit {0}
+At (Ended Settled) t standing vs gs readings c best = Unit {0}
+At (Ended Budget) t standing vs gs readings c best = readings ≡ t .budget
 
 -- rs: the readings of s
 pub record Inv (rs : List Vertex) (s : Search) : Type 0 where
