@@ -22,7 +22,8 @@ use Rattle.rules.specs.declared.Verdict.the-variants.{Accepted}
 use Rattle.rules.proofs.Laws.Openings.{opened-verdict, opened-fresh, opened-sane}
 use Rattle.rules.proofs.Laws.Histories.{Told}
 use Rattle.rules.proofs.Steps.Invariant.{Equation}
-use Rattle.rules.proofs.Runs.Begun.{Begun, fresh-begun, whole-run, run-inv, run-readings, run-builds, run-reflections, run-expansions, run-contractions, run-shrinks, run-probes, run-unfinished, run-standing, run-places, run-vertices, run-first, made-since, falls-since, run-settled-only, run-settled-when, run-spent, run-within, run-within-told}
+use Rattle.rules.proofs.Runs.Begun.{Begun, fresh-begun, whole-run, run-inv, run-readings, run-builds, run-reflections, run-expansions, run-contractions, run-shrinks, run-probes, run-unfinished, run-standing, run-places, run-vertices}
+use Rattle.rules.proofs.Runs.Moments.{run-first, made-since, falls-since, run-settled-only, run-settled-when, run-spent, run-within, run-within-told}
 use Rattle.rules.proofs.Runs.Calling.{telling-joins, asking-answers, showing-best, all-follow}
 
 -- the invariant's equation, once there is a reading

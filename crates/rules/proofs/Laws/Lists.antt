@@ -6,7 +6,7 @@ use Prim.Native.Nat.{ℕ, zero, suc, _-_, _≤_, _<_}
 use native.Mathlib.Nat.{not-suc-le-zero, le-of-suc-le-suc, eq-or-lt-of-le}
 use native.Mathlib.Omega.{arith}
 use lib.ListN.{length, getD, take, replicate, length-append, length-replicate, List·getD-append}
-use lib.Seq.{getD-at, take-append-le}
+use lib.Seq.{getD-at}
 use lib.Ieee.{Float, nan}
 use Rattle.rules.specs.Binary64.{0ᶠ}
 use Rattle.rules.specs.Simplex.{upTo, point}
@@ -63,7 +63,3 @@ module _ {A : Type 0} where
   mem-getD [] i d h = absurd (not-suc-le-zero h)
   mem-getD (x ∷ xs) zero d h = List·Memᴰ·head refl
   mem-getD (x ∷ xs) (suc i) d h = List·Memᴰ·tail (mem-getD xs i d (le-of-suc-le-suc h))
-
-  -- what follows a list that has a first element leaves it the first
-  pub take-one-append : (p q : List A) → 0 < length p → take 1 (p ++ q) ≡ take 1 p
-  take-one-append p q h = take-append-le 1 p q h
