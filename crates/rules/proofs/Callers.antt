@@ -27,6 +27,7 @@ use Rattle.rules.specs.declared.Refusal.{Refusal}
 use Rattle.rules.specs.declared.Refusal.the-variants.{SearchEnded, WrongNumber, NoReading, Damaged}
 use Rattle.rules.proofs.Laws.Openings.{opened-verdict, opened-fresh, opened-axis}
 use Rattle.rules.proofs.Laws.Histories.{Told}
+use Rattle.rules.proofs.Runs.Begun.{whole-run}
 use Rattle.rules.proofs.Runs.Calling.{asked-verdict, told-verdict, shown-verdict, run-undamaged, all-follow}
 use Rattle.rules.proofs.Claim.{opened-begun, claim}
 
@@ -195,3 +196,13 @@ module _ (n : ℕ) (axes : List Axis) (rule : RuleChoice) (coefficients : Coeffi
   schedule cs l =
       let given : openedSearch .setup .n ≡ n = ap (λ (t : Setup). t .n) setup-given in
       rw given at (claims cs .equation (omega (arith, claims cs .readings)))
+
+  -- and there are never more readings than the budget
+  pub schedule-budget : (cs : List Call) → reached cs .readings ≤ budget
+  unfolding run Told fresh
+  schedule-budget cs =
+      let b = opened-begun n axes rule coefficients budget accepted in
+      let f = all-follow openedSearch b cs [] tt in
+      let r = whole-run openedSearch b (accepted-costs cs) (f .0) in
+      let given = ap (λ (t : Setup). t .budget) (r .kept ∙ setup-given) in
+      rw (f .1) (omega (arith, r .inv .noted .room, given))

@@ -1,14 +1,14 @@
 -- What is true of the rules over every accepted history of a newly opened search. Assumes nothing.
 use mathlib.Core.Path.{_≡_, refl, sym, ap, _∙_}
 use mathlib.Core.Bool.{cond}
-use mathlib.Core.List.{List, [], List·Memᴰ, Memᴰ·cast}
+use mathlib.Core.List.{List, [], List·Memᴰ}
 use Prim.Native.Nat.{ℕ, zero, suc, _+_, _<_}
 use native.Mathlib.Omega.{arith}
-use lib.ListN.{length, getD, length-map}
+use lib.ListN.{length, getD}
 use lib.Dec.{eqb}
 use lib.Ieee.{nan}
 use borrow.Author.Tests.{ne-eqb}
-use Rattle.rules.specs.Simplex.{point, blank, costOf}
+use Rattle.rules.specs.Simplex.{point}
 use Rattle.rules.specs.Accept.{build, reflection, expansion, contraction, shrink, run}
 use Rattle.rules.specs.Opening.{noCounts, fresh}
 use Rattle.rules.specs.Calls.{standingOf}
@@ -20,10 +20,10 @@ use Rattle.rules.specs.declared.RuleChoice.{RuleChoice}
 use Rattle.rules.specs.declared.Vertex.{Vertex}
 use Rattle.rules.specs.declared.Search.{Search}
 use Rattle.rules.specs.declared.Phase.the-variants.{Building}
-use Rattle.rules.proofs.Laws.Lists.{mem-getD}
 use Rattle.rules.proofs.Laws.Openings.{Sane}
 use Rattle.rules.proofs.Laws.Histories.{told, readingsOf, Told, length-readingsOf, costs-readingsOf, getD-readingsOf, mem-readingsOf}
 use Rattle.rules.proofs.Steps.Invariant.{Best, Inv}
+use Rattle.rules.proofs.Steps.Noting.{best-mem}
 use Rattle.rules.proofs.Steps.Accepting.{Room}
 use Rattle.rules.proofs.Runs.Running.{Ran, ran, fresh-inv, fresh-room}
 use Rattle.rules.proofs.Runs.Sound.{standing-list}
@@ -98,7 +98,4 @@ module _ (o : Search) (begun : Begun o) where
 
     -- the best's point has n coordinates and zeros after them
     pub best-shape : 0 < length h → point (run o h .setup .n) (λ (a : ℕ). getD (run o h .best .point) a nan) ≡ run o h .best .point
-    best-shape l =
-        let b : Best (readingsOf o h) (run o h .best) = run-inv .noted .least (omega (arith, run-readings)) in
-        let m : List·Memᴰ (run o h .best) (readingsOf o h) = Memᴰ·cast (sym (b .2)) (mem-getD (readingsOf o h) (b .0) blank (rw (length-map (readingsOf o h) costOf) at (b .1 .told))) in
-        run-inv .noted .fine (run o h .best) m .shape
+    best-shape l = run-inv .noted .fine (run o h .best) (best-mem (readingsOf o h) (run o h .best) (run-inv .noted .least (omega (arith, run-readings)))) .shape

@@ -19,7 +19,7 @@ use Rattle.rules.proofs.Laws.Tests.{tests, spent-elim}
 use Rattle.rules.proofs.Laws.Lists.{length-point, point-again}
 use Rattle.rules.proofs.Laws.Histories.{told}
 use Rattle.rules.proofs.Steps.Invariant.{Fine, Noted, At, Inv}
-use Rattle.rules.proofs.Steps.Noting.{_▹_, note}
+use Rattle.rules.proofs.Steps.Noting.{_▹_, NotedWith, note}
 use Rattle.rules.proofs.Steps.Stepping.{Stepped, Fresh}
 use Rattle.rules.proofs.Steps.Gathering.{build-step, shrink-step}
 use Rattle.rules.proofs.Steps.Iterating.{reflect-step, expand-step, contract-step}
@@ -27,7 +27,7 @@ use Rattle.rules.proofs.Steps.Probing.{probe-step}
 
 -- ---- every phase
 
-module _ (rs : List Vertex) (v : Vertex) (s : Search) (inv : Inv rs s) (after : Noted (rs ▹ v) (s .setup) (s .readings + 1) (bestAfter (s .readings) v (s .best))) where
+module _ (rs : List Vertex) (v : Vertex) (s : Search) (inv : Inv rs s) (after : NotedWith v rs s) where
   advance : (p : Phase) → isEnded p ≡ false → v .point ≡ point (s .setup .n) (coordinate s p) → At p (s .setup) (s .standing) (inv .vs) (inv .gs) (s .readings) (s .counts) (s .best)
       → Stepped (rs ▹ v) (finishes p s (v .cost)) (isProbe p) s (advanced p (s .best .cost) v (noted v s))
   unfolding advanced

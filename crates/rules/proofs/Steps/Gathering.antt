@@ -13,8 +13,8 @@ use Rattle.rules.specs.declared.Search.{Search}
 use Rattle.rules.specs.declared.Phase.the-variants.{Building, Shrinking}
 use Rattle.rules.proofs.Laws.Tests.{tests, pick-elim}
 use Rattle.rules.proofs.Laws.Order.{length-insert, ordered-insert}
-use Rattle.rules.proofs.Steps.Invariant.{Leads, Noted, Gathers, AtBuild, AtShrink, Inv}
-use Rattle.rules.proofs.Steps.Noting.{_▹_, known-more, known-new, leads-on}
+use Rattle.rules.proofs.Steps.Invariant.{Leads, Gathers, AtBuild, AtShrink, Inv}
+use Rattle.rules.proofs.Steps.Noting.{_▹_, NotedWith, known-more, known-new, leads-on}
 use Rattle.rules.proofs.Steps.Stepping.{Stepped, pieces-are, gathered-are, finish}
 use Rattle.rules.proofs.Laws.Finishing.{build-last, build-more, shrink-last, shrink-more}
 use Rattle.rules.proofs.Steps.Moving.{known-insert, goes-on, begins}
@@ -35,7 +35,7 @@ later-open : (b i : ℕ) → firstOpen b (suc i) ≡ 1
 later-open zero i = refl
 later-open (suc b) i = refl
 
-module _ (rs : List Vertex) (v : Vertex) (s : Search) (inv : Inv rs s) (after : Noted (rs ▹ v) (s .setup) (s .readings + 1) (bestAfter (s .readings) v (s .best))) where
+module _ (rs : List Vertex) (v : Vertex) (s : Search) (inv : Inv rs s) (after : NotedWith v rs s) where
   -- the gathered vertices, read back
   gathered : (i : ℕ) → length (inv .gs) ≡ i → unpack i (s .gathered) ≡ inv .gs
   gathered i e = gathered-are rs (inv .gs) (s .setup) (s .readings) (s .best) (s .gathered) i (inv .noted) (inv .gathers) e

@@ -4,7 +4,7 @@ use mathlib.Core.List.{List, [], _∷_, List·Memᴰ, Memᴰ·cast, Memᴰ·appe
 use Prim.Native.Nat.{ℕ, _+_, _-_, _≤_, _<_}
 use native.Mathlib.Omega.{arith}
 use native.Mathlib.Nat.{not-suc-le-zero}
-use lib.ListN.{length, getD, length-map}
+use lib.ListN.{length, getD}
 use Rattle.rules.specs.Simplex.{point, blank, place, pack, costOf, Ordered}
 use Rattle.rules.specs.Trial.{reflected}
 use Rattle.rules.specs.Accept.{reflection, expansion, contraction, opened, bestAfter, noted, taken, waiting, f1, fn, row1, row2, row3, winsExpanded, wins, reflectedVertex, reflectedOn, expandedOn, contractedOn, shrinking}
@@ -16,11 +16,10 @@ use Rattle.rules.specs.declared.Side.{Side}
 use Rattle.rules.specs.declared.Side.the-variants.{Outside, Inside}
 use Rattle.rules.specs.declared.Phase.the-variants.{Reflecting, Expanding, Contracting}
 use Rattle.rules.proofs.Laws.Tests.{tests, better-elim, pick-elim}
-use Rattle.rules.proofs.Laws.Lists.{mem-getD}
 use Rattle.rules.proofs.Laws.Order.{first-lower, ordered-at}
 use Rattle.rules.proofs.Laws.Places.{place-pack, cost-pack}
-use Rattle.rules.proofs.Steps.Invariant.{Known, Leads, Noted, Gathers, Idle, Beside, AtExpand, AtContract, Inv}
-use Rattle.rules.proofs.Steps.Noting.{_▹_, known-more, known-new, best-falls, best-stays, leads-on}
+use Rattle.rules.proofs.Steps.Invariant.{Known, Leads, Gathers, Idle, Beside, AtExpand, AtContract, Inv}
+use Rattle.rules.proofs.Steps.Noting.{_▹_, NotedWith, best-mem, known-more, known-new, best-falls, best-stays, leads-on}
 use Rattle.rules.proofs.Laws.Finishing.{row1-more, row2-ends, later-rows, contract-ends, contract-more}
 use Rattle.rules.proofs.Steps.Stepping.{Stepped, pieces-are, whole}
 use Rattle.rules.proofs.Steps.Moving.{takes, goes-on}
@@ -35,7 +34,7 @@ leads-self : (vs : List Vertex) → 1 ≤ length vs → Leads vs (getD vs 0 blan
 leads-self [] l = absurd (not-suc-le-zero l)
 leads-self (v ∷ vs) l = refl
 
-module _ (rs : List Vertex) (v : Vertex) (s : Search) (inv : Inv rs s) (after : Noted (rs ▹ v) (s .setup) (s .readings + 1) (bestAfter (s .readings) v (s .best))) where
+module _ (rs : List Vertex) (v : Vertex) (s : Search) (inv : Inv rs s) (after : NotedWith v rs s) where
   -- the costs that the search carries are those of its vertices
   carries : (i : ℕ) → getD (s .standing .costs) i 0 ≡ getD (inv .vs) i blank .cost
   carries i = rw (inv .stands .are) (cost-pack (inv .vs) i)
@@ -46,9 +45,7 @@ module _ (rs : List Vertex) (v : Vertex) (s : Search) (inv : Inv rs s) (after : 
 
   -- the best is one of the readings
   best-known : 1 ≤ s .readings → List·Memᴰ (s .best) (rs ▹ v)
-  best-known l =
-      let b = inv .noted .least l in
-      Memᴰ·append-left (v ∷ []) (Memᴰ·cast (sym (b .2)) (mem-getD rs (b .0) blank (rw (length-map rs costOf) at (b .1 .told))))
+  best-known l = Memᴰ·append-left (v ∷ []) (best-mem rs (s .best) (inv .noted .least l))
 
   -- in place order costs do not fall
   in-place : (i : ℕ) → 1 ≤ s .counts .builds → i ≤ s .setup .n → getD (inv .vs) i blank .cost ≤ getD (inv .vs) (s .setup .n) blank .cost

@@ -23,8 +23,8 @@ use Rattle.rules.proofs.Laws.Tests.{tests, cond-elim}
 use Rattle.rules.proofs.Laws.Lists.{mem-take}
 use Rattle.rules.proofs.Laws.Order.{length-insert, ordered-insert, mem-insert, total-insert, total-take, ordered-take}
 use Rattle.rules.proofs.Laws.Places.{unpack-take}
-use Rattle.rules.proofs.Steps.Invariant.{Known, Leads, Noted, Stands, Gathers, Equation, At, Inv}
-use Rattle.rules.proofs.Steps.Noting.{_▹_, known-more}
+use Rattle.rules.proofs.Steps.Invariant.{Known, Leads, Stands, Gathers, Equation, At, Inv}
+use Rattle.rules.proofs.Steps.Noting.{_▹_, NotedWith, known-more}
 use Rattle.rules.proofs.Steps.Stepping.{Counted, Stepped, Fresh, readingsIn, othersIn, standingCosts, standing-are, whole, finish}
 
 -- ---- laws that both ways share
@@ -42,7 +42,7 @@ take-leads zero vs x l h = absurd (not-suc-le-zero l)
 take-leads (suc n) [] x l h = h
 take-leads (suc n) (v ∷ vs) x l h = h
 
-module _ (rs : List Vertex) (v : Vertex) (s : Search) (inv : Inv rs s) (after : Noted (rs ▹ v) (s .setup) (s .readings + 1) (bestAfter (s .readings) v (s .best))) where
+module _ (rs : List Vertex) (v : Vertex) (s : Search) (inv : Inv rs s) (after : NotedWith v rs s) where
   -- ---- a point replaces the worst vertex
 
   module _ (stood : 1 ≤ s .counts .builds) where

@@ -1,6 +1,6 @@
 -- One reading more: its number, and the earliest least of all. Assumes nothing.
 use mathlib.Core.Path.{_≡_, refl, sym, ap, _∙_, subst}
-use mathlib.Core.List.{List, [], _∷_, _++_, map, map-append, List·Memᴰ, List·Memᴰ·append-cases, List·Memᴰ·eq-of-singleton, Memᴰ·append-left, Memᴰ·append-right, List·Memᴰ·head}
+use mathlib.Core.List.{List, [], _∷_, _++_, map, map-append, List·Memᴰ, List·Memᴰ·append-cases, List·Memᴰ·eq-of-singleton, Memᴰ·append-left, Memᴰ·append-right, List·Memᴰ·head, Memᴰ·cast}
 use mathlib.Core.Logic.{_⊎_, ⊎-elim}
 use native.Mathlib.Numerals.{add-one}
 use Prim.Native.Nat.{ℕ, zero, suc, _+_, _≤_, _<_}
@@ -14,7 +14,9 @@ use Rattle.rules.specs.Calls.{maxCost}
 use Rattle.rules.specs.History.{EarliestLeast}
 use Rattle.rules.specs.declared.Vertex.{Vertex}
 use Rattle.rules.specs.declared.Setup.{Setup}
+use Rattle.rules.specs.declared.Search.{Search}
 use Rattle.rules.proofs.Laws.Tests.{tests, better-elim}
+use Rattle.rules.proofs.Laws.Lists.{mem-getD}
 use Rattle.rules.proofs.Laws.Order.{le-or-lt, first-lower, first-stays}
 use Rattle.rules.proofs.Steps.Invariant.{Known, Leads, Fine, Best, Noted}
 
@@ -22,6 +24,10 @@ infixl 40 _▹_
 -- the readings, and a new one after them
 abbrev pub _▹_ : List Vertex → Vertex → List Vertex
 _▹_ rs v = rs ++ v ∷ []
+
+-- s has noted the readings rs and the reading v after them
+abbrev pub NotedWith : Vertex → List Vertex → Search → Type 0
+NotedWith v rs s = Noted (rs ▹ v) (s .setup) (s .readings + 1) (bestAfter (s .readings) v (s .best))
 
 pub known-more : (vs rs : List Vertex) (v : Vertex) → Known vs rs → Known vs (rs ▹ v)
 known-more vs rs v h w m = Memᴰ·append-left (v ∷ []) (h w m)
@@ -129,6 +135,10 @@ best-after rs v b (suc k) e h =
 low-after : (k : ℕ) (v b : Vertex) → v .cost ≤ maxCost → b .cost ≤ maxCost → bestAfter k v b .cost ≤ maxCost
 low-after zero v b h g = h
 low-after (suc k) v b h g = better-elim (λ (x : Vertex). x .cost ≤ maxCost) (replaces v b) (λ e. h) (λ e. g)
+
+-- the best is one of the readings
+pub best-mem : (rs : List Vertex) (b : Vertex) → Best rs b → List·Memᴰ b rs
+best-mem rs b h = Memᴰ·cast (sym (h .2)) (mem-getD rs (h .0) blank (rw (length-map rs costOf) at (h .1 .told)))
 
 -- a fine reading is noted, where the budget has room for it
 pub note : (rs : List Vertex) (t : Setup) (k : ℕ) (b v : Vertex) → Noted rs t k b → Fine (t .n) v → k < t .budget → Noted (rs ▹ v) t (k + 1) (bestAfter k v b)

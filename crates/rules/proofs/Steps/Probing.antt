@@ -8,13 +8,13 @@ use Rattle.rules.specs.Accept.{probedOnce, bestAfter, noted, withCounts,
 use Rattle.rules.specs.declared.Vertex.{Vertex}
 use Rattle.rules.specs.declared.Search.{Search}
 use Rattle.rules.proofs.Laws.Tests.{tests, pick-elim}
-use Rattle.rules.proofs.Steps.Invariant.{Known, Leads, Noted, Idle, Inv}
-use Rattle.rules.proofs.Steps.Noting.{_▹_, known-new, best-falls, best-stays}
+use Rattle.rules.proofs.Steps.Invariant.{Known, Leads, Idle, Inv}
+use Rattle.rules.proofs.Steps.Noting.{_▹_, NotedWith, known-new, best-falls, best-stays}
 use Rattle.rules.proofs.Steps.Stepping.{Stepped}
 use Rattle.rules.proofs.Steps.Moving.{probes-on}
 use Rattle.rules.proofs.Steps.Iterating.{gathers-more}
 
-module _ (rs : List Vertex) (v : Vertex) (s : Search) (inv : Inv rs s) (after : Noted (rs ▹ v) (s .setup) (s .readings + 1) (bestAfter (s .readings) v (s .best)))
+module _ (rs : List Vertex) (v : Vertex) (s : Search) (inv : Inv rs s) (after : NotedWith v rs s)
     (p : ℕ) (idle : Idle 0 (inv .gs) (s .readings) (s .counts)) (leads : Leads (inv .vs) (s .best)) (low : p < 2 * s .setup .n) where
   abbrev probedSearch : Search
   probedSearch = withCounts (probedOnce (s .counts)) (noted v s)

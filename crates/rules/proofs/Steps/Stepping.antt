@@ -24,7 +24,7 @@ use Rattle.rules.specs.declared.Phase.the-variants.{Building, Reflecting
 use Rattle.rules.specs.declared.Cause.the-variants.{Settled, Budget}
 use Rattle.rules.proofs.Laws.Places.{Whole, unpack-take}
 use Rattle.rules.proofs.Steps.Invariant.{Known, Leads, Noted, Stands, Gathers, Equation, Idle, At, Inv}
-use Rattle.rules.proofs.Steps.Noting.{_▹_}
+use Rattle.rules.proofs.Steps.Noting.{_▹_, NotedWith}
 
 -- the counts after the pieces of a list, and after so many probes
 pub record Counted (ps : List Piece) (probe : ℕ) (c d : Counts) : Type 0 where
@@ -127,7 +127,7 @@ module _ (rs : List Vertex) (v : Vertex) (s : Search) (p : Piece) (old new : Lis
   tested true k c best standing l h g = (h, g, omega arith)
   tested false k c best standing l h g = (h, g)
 
-  pub finish : (after : Noted (rs ▹ v) (s .setup) (s .readings + 1) (bestAfter (s .readings) v (s .best)))
+  pub finish : (after : NotedWith v rs s)
       → length vs ≡ s .setup .n + 1 → Ordered vs → Known vs (rs ▹ v) → Leads vs (bestAfter (s .readings) v (s .best))
       → Equation (s .setup .n) (s .readings) (s .counts) → 1 ≤ s .readings → s .counts .unfinished + 1 ≡ readingsIn (s .setup .n) p → 1 ≤ counted p (s .counts) .builds
       → (countOf build (p ∷ []) ≡ 0 → countOf shrink (p ∷ []) ≡ 0 → othersIn (p ∷ []) + total (map costOf vs) ≤ standingCosts s)
