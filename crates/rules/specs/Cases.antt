@@ -34,6 +34,12 @@ trialAfter start hi rule cs = next (run (caseSearch start hi rule) cs)
 abbrev pub programSearch : Search
 programSearch = fresh 1 (caseAxis 0ᶠ 8ᶠ ∷ replicate 7 zeroAxis) (Named (Spread 1)) usual 4
 
+-- three axes, the first with hi and start 0.1, a number of which three add up to more than three times itself
+abbrev pub roundedSearch : Search
+roundedSearch =
+    let tenth = bits 0x3fb9_9999_9999_999a in
+    fresh 3 (caseAxis tenth tenth ∷ caseAxis 0ᶠ 8ᶠ ∷ caseAxis 0ᶠ 8ᶠ ∷ replicate 5 zeroAxis) Unnamed usual 100
+
 -- what the rules give
 unfoldable pub casesGiven : List Shows
 casesGiven =
@@ -44,6 +50,8 @@ casesGiven =
     -- r is clamped to (0,1.75), and the outside point goes by the clamped r
     ∷ trialAfter 1ᶠ (bits 0x3ffc_0000_0000_0000) Unnamed (10 ∷ 20 ∷ 30 ∷ [])
     ∷ trialAfter 1ᶠ (bits 0x3ffc_0000_0000_0000) Unnamed (10 ∷ 20 ∷ 30 ∷ 25 ∷ [])
+    -- c is above hi by rounding, r is clamped to hi, and e, twice as far from c, lies below: it goes by the clamped r
+    ∷ next (run roundedSearch (10 ∷ 40 ∷ 20 ∷ 30 ∷ [])) ∷ next (run roundedSearch (10 ∷ 40 ∷ 20 ∷ 30 ∷ 5 ∷ []))
     -- no rule named, spread 4: three equal costs meet it, and a round probes around the first reading: forward, back, next axis
     ∷ trialAfter 2ᶠ 8ᶠ Unnamed (10 ∷ 10 ∷ 10 ∷ [])
     ∷ trialAfter 2ᶠ 8ᶠ Unnamed (10 ∷ 10 ∷ 10 ∷ 10 ∷ [])
@@ -72,6 +80,7 @@ casesStated =
     ∷ asks 𝟏 0x4000_0000_0000_0000
     ∷ asks 0 0x3ffc_0000_0000_0000
     ∷ asks ¼ 0x3ff6_0000_0000_0000
+    ∷ asks 0x3fb9_9999_9999_999a 0x3fe5_5555_5555_5555 ∷ asks 0x3fb9_9999_9999_9999 0x3ff0_0000_0000_0000
     ∷ asks 0x4000_0200_0000_0000 0x4000_0000_0000_0000
     ∷ asks 0x3fff_fc00_0000_0000 0x4000_0000_0000_0000
     ∷ asks 0x4000_0000_0000_0000 0x4000_0200_0000_0000
