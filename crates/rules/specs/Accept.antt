@@ -78,15 +78,15 @@ opened k c = record { builds = c .builds; reflections = c .reflections; expansio
 abbrev pub probedOnce : Counts → Counts
 probedOnce c = record { builds = c .builds; reflections = c .reflections; expansions = c .expansions; contractions = c .contractions; shrinks = c .shrinks; probes = c .probes + 1; unfinished = c .unfinished }
 
--- "f1 .. the costs at places 1, n, n+1"
+-- "f1": the cost at place 1
 abbrev pub f1 : Search → ℕ
 f1 s = getD (s .standing .costs) 0 0
 
--- fn
+-- "fn": the cost at place n
 abbrev pub fn : Search → ℕ
 fn s = getD (s .standing .costs) (s .setup .n - 1) 0
 
--- fw
+-- "fw": the cost at place n+1
 abbrev pub fw : Search → ℕ
 fw s = getD (s .standing .costs) (s .setup .n) 0
 
