@@ -3,12 +3,16 @@
 use mathlib.Core.List.{List, [], _∷_}
 use Prim.Native.Nat.{ℕ}
 use lib.ListN.{replicate}
-use lib.Ieee.{Float, binary64, ofBits, neg}
-use Rattle.rules.specs.Binary64.{0ᶠ, 1ᶠ, 2ᶠ, 8ᶠ}
+use lib.Ieee.{Float, binary64, ofBits, neg, nan}
+use Rattle.rules.specs.Binary64.{0ᶠ, 1ᶠ, 2ᶠ, 8ᶠ, farthest}
 use Rattle.rules.specs.Accept.{run}
-use Rattle.rules.specs.Opening.{zeroAxis, fresh}
-use Rattle.rules.specs.Examples.{½, 𝟏, 1¼, 1½, ¼, usual, Shows, asks, next}
+use Rattle.rules.specs.Opening.{zeroAxis, openVerdict, fresh}
+use Rattle.rules.specs.Examples.{½, 𝟏, 1¼, 1½, ¼, usual, exampleAxis, Shows, asks, next}
 use Rattle.rules.specs.declared.Axis.{Axis}
+use Rattle.rules.specs.declared.Coefficients.{Coefficients}
+use Rattle.rules.specs.declared.Verdict.{Verdict}
+use Rattle.rules.specs.declared.Verdict.the-variants.{Accepted, Refused}
+use Rattle.rules.specs.declared.Refusal.the-variants.{AxisCount, OutOfRange, BadLimits, BadStep, BadCoefficient, BadThreshold, BadBudget}
 use Rattle.rules.specs.declared.Search.{Search}
 use Rattle.rules.specs.declared.Rule.the-variants.{Spread, Moved, Size}
 use Rattle.rules.specs.declared.RuleChoice.{RuleChoice}
@@ -22,23 +26,37 @@ bits = ofBits binary64
 abbrev pub caseAxis : Float → Float → Axis
 caseAxis start hi = record { lo = neg 8ᶠ; hi = hi; start = start; step = 1ᶠ }
 
+-- two axis records, and zeros after them
+abbrev pub twoAxes : Axis → Axis → List Axis
+twoAxes x y = x ∷ y ∷ replicate 6 zeroAxis
+
 -- two such axes, the usual coefficients, budget 100
 abbrev pub caseSearch : Float → Float → RuleChoice → Search
-caseSearch start hi rule = fresh 2 (caseAxis start hi ∷ caseAxis start hi ∷ replicate 6 zeroAxis) rule usual 100
+caseSearch start hi rule = fresh 2 (twoAxes (caseAxis start hi) (caseAxis start hi)) rule usual 100
 
 -- the trial after these costs
 abbrev pub trialAfter : Float → Float → RuleChoice → List ℕ → Shows
 trialAfter start hi rule cs = next (run (caseSearch start hi rule) cs)
 
+-- one axis record, and zeros after it
+abbrev pub oneAxis : List Axis
+oneAxis = caseAxis 0ᶠ 8ᶠ ∷ replicate 7 zeroAxis
+
 -- the input that document 01 gives the program: one axis, budget 4, spread 1
 abbrev pub programSearch : Search
-programSearch = fresh 1 (caseAxis 0ᶠ 8ᶠ ∷ replicate 7 zeroAxis) (Named (Spread 1)) usual 4
+programSearch = fresh 1 oneAxis (Named (Spread 1)) usual 4
 
--- three axes, the first with hi and start 0.1, a number of which three add up to more than three times itself
+-- 0.1, of which three add up to more than three times itself
+abbrev pub tenth : Float
+tenth = bits 0x3fb9_9999_9999_999a
+
+-- three axes, the first with hi and start 0.1
+abbrev pub threeAxes : List Axis
+threeAxes = caseAxis tenth tenth ∷ caseAxis 0ᶠ 8ᶠ ∷ caseAxis 0ᶠ 8ᶠ ∷ replicate 5 zeroAxis
+
+-- a search over them
 abbrev pub roundedSearch : Search
-roundedSearch =
-    let tenth = bits 0x3fb9_9999_9999_999a in
-    fresh 3 (caseAxis tenth tenth ∷ caseAxis 0ᶠ 8ᶠ ∷ caseAxis 0ᶠ 8ᶠ ∷ replicate 5 zeroAxis) Unnamed usual 100
+roundedSearch = fresh 3 threeAxes Unnamed usual 100
 
 -- what the rules give
 unfoldable pub casesGiven : List Shows
@@ -60,7 +78,7 @@ casesGiven =
     ∷ trialAfter 2ᶠ 8ᶠ Unnamed (10 ∷ 10 ∷ 10 ∷ 10 ∷ 10 ∷ 9 ∷ [])
     ∷ trialAfter 2ᶠ 8ᶠ Unnamed (10 ∷ 10 ∷ 10 ∷ 10 ∷ 10 ∷ 9 ∷ 12 ∷ [])
     -- moved is never met at a build; (2,2) replaced by (3,3) moves 2, which is < E·2 for E just above 1 only
-    ∷ trialAfter 2ᶠ 8ᶠ (Named (Moved (bits 0x4130_0000_0000_0000))) (30 ∷ 20 ∷ 10 ∷ [])
+    ∷ trialAfter 2ᶠ 8ᶠ (Named (Moved farthest)) (30 ∷ 20 ∷ 10 ∷ [])
     ∷ trialAfter 2ᶠ 8ᶠ (Named (Moved 1ᶠ)) (30 ∷ 20 ∷ 10 ∷ 15 ∷ [])
     ∷ trialAfter 2ᶠ 8ᶠ (Named (Moved (bits 0x3ff0_0000_0000_0001))) (30 ∷ 20 ∷ 10 ∷ 15 ∷ [])
     -- size: x1 is (2,3), D is 13, and the farthest vertex is 2 away: 0.25² · 13 is less, 0.5² · 13 is not
@@ -94,4 +112,76 @@ casesStated =
     ∷ asks 𝟏 𝟏
     ∷ asks 0x3f50_0000_0000_0000 𝟏
     ∷ asks 0 0 ∷ asks 𝟏 0 ∷ asks 0xbff0_0000_0000_0000 0 ∷ asks 0xbfe0_0000_0000_0000 0
+    ∷ []
+
+-- ---- openings
+
+-- an axis from −8 to 8 that starts at 0 with this step
+abbrev pub stepAxis : Float → Axis
+stepAxis step = record { lo = neg 8ᶠ; hi = 8ᶠ; start = 0ᶠ; step = step }
+
+-- the usual coefficients with another χ
+abbrev pub withChi : Float → Coefficients
+withChi chi = record { alpha = 1ᶠ; chi = chi; beta = bits ½; sigma = bits ½ }
+
+-- the verdict on two axis records with the usual coefficients and budget 100
+abbrev pub verdictOn : Axis → Axis → RuleChoice → Verdict
+verdictOn x y rule = openVerdict 2 (twoAxes x y) rule usual 100
+
+-- the verdict on the opening of a case
+abbrev pub caseVerdict : Float → Float → RuleChoice → Verdict
+caseVerdict start hi rule = verdictOn (caseAxis start hi) (caseAxis start hi) rule
+
+-- the verdict on the first case's axes with other coefficients and another budget
+abbrev pub verdictWith : RuleChoice → Coefficients → ℕ → Verdict
+verdictWith rule c budget = openVerdict 2 (twoAxes (stepAxis 1ᶠ) (stepAxis 1ᶠ)) rule c budget
+
+-- what the rules give
+unfoldable pub openingsGiven : List Verdict
+openingsGiven =
+    -- P1 and P12, and the cases above
+    openVerdict 2 (twoAxes (exampleAxis 8ᶠ) (exampleAxis 8ᶠ)) (Named (Spread 4)) usual 100
+    ∷ openVerdict 2 (twoAxes (exampleAxis (bits 1¼)) (exampleAxis (bits 1¼))) (Named (Spread 4)) usual 100
+    ∷ caseVerdict 2ᶠ 8ᶠ Unnamed ∷ caseVerdict 2ᶠ (bits 0x4004_0000_0000_0000) Unnamed ∷ caseVerdict 1ᶠ (bits 0x3ffc_0000_0000_0000) Unnamed
+    ∷ openVerdict 3 threeAxes Unnamed usual 100
+    ∷ caseVerdict 2ᶠ 8ᶠ (Named (Moved farthest)) ∷ caseVerdict 2ᶠ 8ᶠ (Named (Moved 1ᶠ)) ∷ caseVerdict 2ᶠ 8ᶠ (Named (Moved (bits 0x3ff0_0000_0000_0001)))
+    ∷ caseVerdict 2ᶠ 8ᶠ (Named (Size (bits ¼))) ∷ caseVerdict 2ᶠ 8ᶠ (Named (Size (bits ½)))
+    ∷ caseVerdict 0ᶠ 8ᶠ (Named (Size (bits 1¼))) ∷ caseVerdict 0ᶠ 8ᶠ (Named (Size (bits 1½)))
+    ∷ openVerdict 1 oneAxis (Named (Spread 1)) usual 4
+    -- 1: n not 1 to 8
+    ∷ openVerdict 0 oneAxis Unnamed usual 100 ∷ openVerdict 9 oneAxis Unnamed usual 100
+    -- 2: a NaN; but records past n are not read
+    ∷ verdictOn (stepAxis 1ᶠ) (stepAxis nan) Unnamed ∷ openVerdict 1 (twoAxes (stepAxis 1ᶠ) (stepAxis nan)) Unnamed usual 100
+    -- 3: lo = hi, start > hi, step 0
+    ∷ caseVerdict (neg 8ᶠ) (neg 8ᶠ) Unnamed ∷ caseVerdict 2ᶠ 1ᶠ Unnamed ∷ verdictOn (stepAxis 0ᶠ) (stepAxis 1ᶠ) Unnamed
+    -- 4: 8 is half of hi − lo, the next number is more, and comes before axis 2's refusal; 8 + 2⁻⁶⁰ equals 8
+    ∷ verdictOn (stepAxis 8ᶠ) (stepAxis 8ᶠ) Unnamed ∷ verdictOn (stepAxis (bits 0x4020_0000_0000_0001)) (stepAxis nan) Unnamed
+    ∷ verdictOn (stepAxis 1ᶠ) (record { lo = neg 8ᶠ; hi = 8ᶠ; start = 8ᶠ; step = bits 0x3c30_0000_0000_0000 }) Unnamed
+    -- 5: χ not above 1 and α, and before 6; χ at most 8
+    ∷ verdictWith (Named (Spread 0)) (withChi 1ᶠ) 100 ∷ verdictWith Unnamed (withChi 8ᶠ) 100 ∷ verdictWith Unnamed (withChi (bits 0x4020_0000_0000_0001)) 100
+    -- 6: spread from 1, a float above 0, and before 7
+    ∷ verdictWith (Named (Spread 0)) usual 2 ∷ verdictWith (Named (Spread 4294967295)) usual 100 ∷ verdictWith (Named (Spread 4294967296)) usual 100 ∷ verdictWith (Named (Moved 0ᶠ)) usual 100
+    -- 7: n+1 to 1,000,000
+    ∷ verdictWith Unnamed usual 2 ∷ verdictWith Unnamed usual 3 ∷ verdictWith Unnamed usual 1000000 ∷ verdictWith Unnamed usual 1000001
+    ∷ []
+
+-- what the table says, line by line as above
+unfoldable pub openingsStated : List Verdict
+openingsStated =
+    Accepted
+    ∷ Accepted
+    ∷ Accepted ∷ Accepted ∷ Accepted
+    ∷ Accepted
+    ∷ Accepted ∷ Accepted ∷ Accepted
+    ∷ Accepted ∷ Accepted
+    ∷ Accepted ∷ Accepted
+    ∷ Accepted
+    ∷ Refused AxisCount ∷ Refused AxisCount
+    ∷ Refused (OutOfRange 2) ∷ Accepted
+    ∷ Refused (BadLimits 1) ∷ Refused (BadLimits 1) ∷ Refused (BadLimits 1)
+    ∷ Accepted ∷ Refused (BadStep 1)
+    ∷ Refused (BadStep 2)
+    ∷ Refused BadCoefficient ∷ Accepted ∷ Refused BadCoefficient
+    ∷ Refused BadThreshold ∷ Accepted ∷ Refused BadThreshold ∷ Refused BadThreshold
+    ∷ Refused BadBudget ∷ Accepted ∷ Accepted ∷ Refused BadBudget
     ∷ []
