@@ -8,7 +8,7 @@ use native.Mathlib.Omega.{arith}
 use lib.ListN.{length, getD, length-append}
 use lib.Dec.{eqb, leb}
 use lib.Ieee.{Float, nan}
-use borrow.Author.Tests.{eqb-true, ne-eqb, eq-eqb}
+use borrow.Author.Tests.{eqb-true, ne-eqb, eq-eqb, lt-leb}
 use Rattle.rules.specs.Binary64.{_≤ᶠ_}
 use Rattle.rules.specs.Trial.{noAxis}
 use Rattle.rules.specs.Accept.{run}
@@ -24,10 +24,10 @@ use Rattle.rules.specs.declared.Search.{Search}
 use Rattle.rules.specs.declared.Verdict.{Verdict}
 use Rattle.rules.specs.declared.Verdict.the-variants.{Accepted, Refused}
 use Rattle.rules.specs.declared.Refusal.{Refusal}
-use Rattle.rules.specs.declared.Refusal.the-variants.{SearchEnded, WrongNumber, NoReading, Damaged}
+use Rattle.rules.specs.declared.Refusal.the-variants.{SearchEnded, CostTooHigh, WrongNumber, NoReading, Damaged}
 use Rattle.rules.proofs.Laws.Openings.{opened-verdict, opened-fresh, opened-axis}
-use Rattle.rules.proofs.Laws.Histories.{Told}
-use Rattle.rules.proofs.Runs.Begun.{whole-run}
+use Rattle.rules.proofs.Laws.Histories.{Joined}
+use Rattle.rules.proofs.Runs.Begun.{Begun, whole-run}
 use Rattle.rules.proofs.Runs.Calling.{asked-verdict, told-verdict, shown-verdict, run-undamaged, all-follow}
 use Rattle.rules.proofs.Claim.{opened-begun, claim}
 
@@ -62,6 +62,16 @@ module _ (s : Search) (h : undamaged s ≡ true) where
       go : (b : Bool) → toldBy (check (not b) SearchEnded (Refused WrongNumber)) s c ≡ record { verdict = Refused (cond b SearchEnded WrongNumber); search = s }
       go true = refl
       go false = refl
+
+  -- the next number with a cost above the largest is refused as 9
+  tell-high : (k c : ℕ) → isEnded (s .phase) ≡ false → k ≡ s .readings + 1 → maxCost < c → telling s k c ≡ record { verdict = Refused CostTooHigh; search = s }
+  unfolding telling tellVerdict
+  tell-high k c live e high = rw (h, live, eq-eqb k (s .readings + 1) e, lt-leb c maxCost high)
+
+  -- ask is refused as 8 once the search has ended
+  ask-ended : isEnded (s .phase) ≡ true → (asking s .verdict ≡ Refused SearchEnded) × (asking s .search ≡ s)
+  unfolding asking askVerdict
+  ask-ended e = rw (h, e) (refl, refl)
 
   -- best is refused as 11 before the first reading
   best-none : s .readings ≡ 0 → showing s .verdict ≡ Refused NoReading
@@ -125,13 +135,17 @@ module _ (n : ℕ) (axes : List Axis) (rule : RuleChoice) (coefficients : Coeffi
   claims : (cs : List Call) → Claims openedSearch (accepted-costs cs) (reached cs)
   claims = claim n axes rule coefficients budget accepted
 
+  begun : Begun openedSearch
+  begun = opened-begun n axes rule coefficients budget accepted
+
+  -- the search is that of the rules over an accepted history
+  followed : (cs : List Call) → Joined openedSearch (accepted-costs cs) × (reached cs ≡ run openedSearch (accepted-costs cs))
+  unfolding run Joined
+  followed cs = all-follow openedSearch begun cs [] tt
+
   -- refusal 12 is never given
   pub sound-always : (cs : List Call) → undamaged (reached cs) ≡ true
-  unfolding run Told
-  sound-always cs =
-      let b = opened-begun n axes rule coefficients budget accepted in
-      let f = all-follow openedSearch b cs [] tt in
-      rw (f .1) (run-undamaged openedSearch b (accepted-costs cs) (f .0))
+  sound-always cs = rw (followed cs .1) (run-undamaged openedSearch begun (accepted-costs cs) (followed cs .0))
 
   pub never-12 : (cs : List Call) → Not12 (asking (reached cs) .verdict) × ((k c : ℕ) → Not12 (telling (reached cs) k c .verdict)) × Not12 (showing (reached cs) .verdict)
   never-12 cs = let h = sound-always cs in (ask-not-12 (reached cs) h, tell-not-12 (reached cs) h, best-not-12 (reached cs) h)
@@ -158,6 +172,10 @@ module _ (n : ℕ) (axes : List Axis) (rule : RuleChoice) (coefficients : Coeffi
   pub controller-told : (cs : List Call) (k : ℕ) → k < length (accepted-costs cs) → Permitted (reading openedSearch (accepted-costs cs) k .point)
   controller-told cs k l = permitted (reading openedSearch (accepted-costs cs) k .point) (claims cs .withinTold k l)
 
+  -- an ended search proposes nothing more
+  pub controller-ended : (cs : List Call) → isEnded (reached cs .phase) ≡ true → (asking (reached cs) .verdict ≡ Refused SearchEnded) × (asking (reached cs) .search ≡ reached cs)
+  controller-ended cs e = ask-ended (reached cs) (sound-always cs) e
+
   -- ---- the camera: a number told twice, late or early is refused, and the search stays
 
   -- the answer to a tell whose number is not the next
@@ -176,6 +194,11 @@ module _ (n : ℕ) (axes : List Axis) (rule : RuleChoice) (coefficients : Coeffi
       let number : k ≡ length h + 1 = eqb-true k (length h + 1) (joins-number openedSearch h k c j) in
       let late : k ≡ length (accepted-costs more) + 1 → ⊥ = λ q. omega (arith, rw (costs, length-append h (c ∷ [])) at q) in
       rw (after-snoc openedSearch cs (tell k c)) at (camera-wrong more k d late)
+
+  -- so is a cost above the largest
+  pub camera-high : (cs : List Call) (k c : ℕ) → isEnded (reached cs .phase) ≡ false → k ≡ length (accepted-costs cs) + 1 → maxCost < c
+      → telling (reached cs) k c ≡ record { verdict = Refused CostTooHigh; search = reached cs }
+  camera-high cs k c live e high = tell-high (reached cs) (sound-always cs) k c live (e ∙ ap (λ (m : ℕ). m + 1) (sym (claims cs .readings))) high
 
   -- ---- the panel: best answers a reading that no accepted reading beats
 
@@ -199,10 +222,8 @@ module _ (n : ℕ) (axes : List Axis) (rule : RuleChoice) (coefficients : Coeffi
 
   -- and there are never more readings than the budget
   pub schedule-budget : (cs : List Call) → reached cs .readings ≤ budget
-  unfolding run Told fresh
+  unfolding fresh
   schedule-budget cs =
-      let b = opened-begun n axes rule coefficients budget accepted in
-      let f = all-follow openedSearch b cs [] tt in
-      let r = whole-run openedSearch b (accepted-costs cs) (f .0) in
+      let r = whole-run openedSearch begun (accepted-costs cs) (followed cs .0) in
       let given = ap (λ (t : Setup). t .budget) (r .kept ∙ setup-given) in
-      rw (f .1) (omega (arith, r .inv .noted .room, given))
+      rw (followed cs .1) (omega (arith, r .inv .noted .room, given))

@@ -20,7 +20,7 @@ use Rattle.rules.specs.declared.Phase.the-variants.{Ended}
 use Rattle.rules.specs.declared.Cause.the-variants.{Settled}
 use Rattle.rules.specs.declared.Verdict.the-variants.{Accepted}
 use Rattle.rules.proofs.Laws.Openings.{opened-verdict, opened-fresh, opened-sane}
-use Rattle.rules.proofs.Laws.Histories.{Told}
+use Rattle.rules.proofs.Laws.Histories.{Joined}
 use Rattle.rules.proofs.Steps.Invariant.{Equation}
 use Rattle.rules.proofs.Runs.Begun.{Begun, fresh-begun, whole-run, run-inv, run-readings, run-builds, run-reflections, run-expansions, run-contractions, run-shrinks, run-probes, run-unfinished, run-standing, run-places, run-vertices}
 use Rattle.rules.proofs.Runs.Moments.{run-first, made-since, falls-since, run-settled-only, run-settled-when, run-spent, run-within, run-within-told}
@@ -32,28 +32,28 @@ equation-from m n k c e h l = rw (← e) (omega arith)
 
 -- every claim, of the rules over an accepted history
 module _ (o : Search) (begun : Begun o) where
-  first-of : (h : List ℕ) → Told o h → (before : List ℕ) (c : ℕ) (since : List ℕ) → h ≡ before ++ c ∷ since → Ends o before c
+  first-of : (h : List ℕ) → Joined o h → (before : List ℕ) (c : ℕ) (since : List ℕ) → h ≡ before ++ c ∷ since → Ends o before c
       → (k : ℕ) × EarliestLeast (before ++ c ∷ []) k × (take 1 (standingOf (run o (before ++ c ∷ []))) ≡ reading o h k ∷ [])
   first-of h t before c since e ends = rw e (run-first o begun before c since (rw e at t) ends)
 
-  bound-of : (p : Piece) (h : List ℕ) → Told o h → BoundAfter p o h
+  bound-of : (p : Piece) (h : List ℕ) → Joined o h → BoundAfter p o h
   bound-of p h t before c since e ends builds shrinks =
-      let here : Told o (before ++ c ∷ since) = rw e at t in
+      let here : Joined o (before ++ c ∷ since) = rw e at t in
       let more = made-since o begun before c since here in
       let falls = falls-since o begun before c since here (omega (arith, more build, rw e at builds)) (omega (arith, more shrink, rw e at shrinks)) in
       rw e (omega (arith, more reflection, more expansion, more contraction))
 
-  settled-of : (h : List ℕ) → Told o h → (before round : List ℕ) → h ≡ before ++ round → FullRound o before round → run o h .phase ≡ Ended Settled
+  settled-of : (h : List ℕ) → Joined o h → (before round : List ℕ) → h ≡ before ++ round → FullRound o before round → run o h .phase ≡ Ended Settled
   settled-of h t before round e f = rw e (run-settled-when o begun before round (rw e at t) f)
 
-  within-asked : (h : List ℕ) (t : Told o h) → isEnded (run o h .phase) ≡ false → Within (o .setup) (asking (run o h) .point)
+  within-asked : (h : List ℕ) (t : Joined o h) → isEnded (run o h .phase) ≡ false → Within (o .setup) (asking (run o h) .point)
   within-asked h t e = rw (asking-answers o begun h t e .2) (run-within o begun h t e)
 
-  equation-of : (h : List ℕ) (t : Told o h) → 0 < length h → run o h .readings ≡ readingsBy (o .setup .n) (run o h .counts)
+  equation-of : (h : List ℕ) (t : Joined o h) → 0 < length h → run o h .readings ≡ readingsBy (o .setup .n) (run o h .counts)
   equation-of h t l =
       equation-from (run o h .setup .n) (o .setup .n) (run o h .readings) (run o h .counts) (ap (λ s. s .n) (whole-run o begun h t .kept)) (run-inv o begun h t .equation) (omega (arith, run-readings o begun h t))
 
-  claims : (h : List ℕ) → Told o h → Claims o h (run o h)
+  claims : (h : List ℕ) → Joined o h → Claims o h (run o h)
   claims h t =
       record {
         carried = refl;
@@ -84,7 +84,7 @@ module _ (o : Search) (begun : Begun o) where
       }
 
   pub claim-begun : (cs : List Call) → Claims o (history o cs) (after o cs)
-  unfolding run Told
+  unfolding run Joined
   claim-begun cs = let f = all-follow o begun cs [] tt in rw (f .1) (claims (history o cs) (f .0))
 
 -- an opening that is not refused begins a search

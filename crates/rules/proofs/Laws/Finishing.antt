@@ -4,28 +4,22 @@ use mathlib.Core.Logic.{_≢_}
 use mathlib.Core.Bool.{true, false}
 use mathlib.Core.List.{[], _∷_}
 use Prim.Native.Nat.{ℕ, _≤_, _<_}
+use lib.Dec.{eqb}
 use borrow.Author.Tests.{lt-ltb, le-ltb, eq-eqb, ne-eqb}
-use Rattle.rules.specs.Accept.{build, reflection, contraction, shrink, f1, fn, wins}
-use Rattle.rules.specs.Tally.{finishes}
+use Rattle.rules.specs.Accept.{Piece, reflection, contraction, f1, fn, wins}
+use Rattle.rules.specs.Tally.{pieceIf, finishes}
 use Rattle.rules.specs.declared.Search.{Search}
 use Rattle.rules.specs.declared.Side.{Side}
-use Rattle.rules.specs.declared.Phase.the-variants.{Building, Reflecting, Contracting, Shrinking}
+use Rattle.rules.specs.declared.Phase.the-variants.{Reflecting, Contracting}
+
+-- a build or a shrink is ended by its last trial, and by no other
+pub last-ends : (p : Piece) (i n : ℕ) → i ≡ n → pieceIf (eqb i n) p ≡ p ∷ []
+last-ends p i n h = rw (eq-eqb i n h)
+
+pub other-more : (p : Piece) (i n : ℕ) → i ≢ n → pieceIf (eqb i n) p ≡ []
+other-more p i n h = rw (ne-eqb i n h)
 
 module _ (s : Search) (c : ℕ) where
-  -- the last trial ends a build, another does not
-  pub build-last : (i : ℕ) → i ≡ s .setup .n → finishes (Building i) s c ≡ build ∷ []
-  build-last i h = rw (eq-eqb i (s .setup .n) h)
-
-  pub build-more : (i : ℕ) → i ≢ s .setup .n → finishes (Building i) s c ≡ []
-  build-more i h = rw (ne-eqb i (s .setup .n) h)
-
-  -- so with a shrink
-  pub shrink-last : (j : ℕ) → j ≡ s .setup .n → finishes (Shrinking j) s c ≡ shrink ∷ []
-  shrink-last j h = rw (eq-eqb j (s .setup .n) h)
-
-  pub shrink-more : (j : ℕ) → j ≢ s .setup .n → finishes (Shrinking j) s c ≡ []
-  shrink-more j h = rw (ne-eqb j (s .setup .n) h)
-
   -- the second row ends an iteration, the others do not
   pub row1-more : c < f1 s → finishes Reflecting s c ≡ []
   row1-more h = rw (lt-ltb c (f1 s) h)

@@ -18,18 +18,18 @@ use Rattle.rules.specs.History.{reading}
 use Rattle.rules.specs.Tally.{finishes, pieces, countOf, made, probesIn, openIn}
 
 -- the trial of a search with its cost
-abbrev pub told : Search → ℕ → Vertex
-told s c = record { point = trial s; cost = c }
+abbrev pub readingOf : Search → ℕ → Vertex
+readingOf s c = record { point = trial s; cost = c }
 
 -- the readings of a history, in order
 unfoldable pub readingsOf : Search → List ℕ → List Vertex
 readingsOf s [] = []
-readingsOf s (c ∷ cs) = told s c ∷ readingsOf (accept s c) cs
+readingsOf s (c ∷ cs) = readingOf s c ∷ readingsOf (accept s c) cs
 
 -- each cost of the history was told to a search that had not ended, and is a cost
-unfoldable pub Told : Search → List ℕ → Type 0
-Told s [] = Unit {0}
-Told s (c ∷ cs) = (isEnded (s .phase) ≡ false) × (c ≤ maxCost) × Told (accept s c) cs
+unfoldable pub Joined : Search → List ℕ → Type 0
+Joined s [] = Unit {0}
+Joined s (c ∷ cs) = (isEnded (s .phase) ≡ false) × (c ≤ maxCost) × Joined (accept s c) cs
 
 -- ---- one list after another
 
@@ -37,6 +37,11 @@ pub run-append : (s : Search) (p q : List ℕ) → run s (p ++ q) ≡ run (run s
 unfolding run
 run-append s [] q = refl
 run-append s (c ∷ p) q = run-append (accept s c) p q
+
+-- the last cost of a history
+pub run-snoc : (s : Search) (p : List ℕ) (c : ℕ) → run s (p ++ c ∷ []) ≡ accept (run s p) c
+unfolding run
+run-snoc s p c = run-append s p (c ∷ [])
 
 pub countOf-append : (x : Piece) (p q : List Piece) → countOf x (p ++ q) ≡ countOf x p + countOf x q
 unfolding countOf
@@ -65,7 +70,7 @@ openIn-append k s (c ∷ p) q = openIn-append _ (accept s c) p q
 pub readingsOf-append : (s : Search) (p q : List ℕ) → readingsOf s (p ++ q) ≡ readingsOf s p ++ readingsOf (run s p) q
 unfolding readingsOf run
 readingsOf-append s [] q = refl
-readingsOf-append s (c ∷ p) q = ap (λ (l : List Vertex). told s c ∷ l) (readingsOf-append (accept s c) p q)
+readingsOf-append s (c ∷ p) q = ap (λ (l : List Vertex). readingOf s c ∷ l) (readingsOf-append (accept s c) p q)
 
 -- ---- the readings
 
@@ -100,17 +105,17 @@ reading-append s p q k l = rw (take-append-le k p q (omega arith), List·getD-ap
 
 -- ---- accepted histories
 
-pub told-left : (s : Search) (p q : List ℕ) → Told s (p ++ q) → Told s p
-unfolding Told
-told-left s [] q h = tt
-told-left s (c ∷ p) q h = (h .0, h .1, told-left (accept s c) p q (h .2))
+pub joined-left : (s : Search) (p q : List ℕ) → Joined s (p ++ q) → Joined s p
+unfolding Joined
+joined-left s [] q h = tt
+joined-left s (c ∷ p) q h = (h .0, h .1, joined-left (accept s c) p q (h .2))
 
-pub told-right : (s : Search) (p q : List ℕ) → Told s (p ++ q) → Told (run s p) q
-unfolding Told run
-told-right s [] q h = h
-told-right s (c ∷ p) q h = told-right (accept s c) p q (h .2)
+pub joined-right : (s : Search) (p q : List ℕ) → Joined s (p ++ q) → Joined (run s p) q
+unfolding Joined run
+joined-right s [] q h = h
+joined-right s (c ∷ p) q h = joined-right (accept s c) p q (h .2)
 
-pub told-snoc : (s : Search) (p : List ℕ) (c : ℕ) → Told s p → isEnded (run s p .phase) ≡ false → c ≤ maxCost → Told s (p ++ c ∷ [])
-unfolding Told run
-told-snoc s [] c h e l = (e, l, tt)
-told-snoc s (d ∷ p) c h e l = (h .0, h .1, told-snoc (accept s d) p c (h .2) e l)
+pub joined-snoc : (s : Search) (p : List ℕ) (c : ℕ) → Joined s p → isEnded (run s p .phase) ≡ false → c ≤ maxCost → Joined s (p ++ c ∷ [])
+unfolding Joined run
+joined-snoc s [] c h e l = (e, l, tt)
+joined-snoc s (d ∷ p) c h e l = (h .0, h .1, joined-snoc (accept s d) p c (h .2) e l)

@@ -21,7 +21,7 @@ use Rattle.rules.specs.declared.Vertex.{Vertex}
 use Rattle.rules.specs.declared.Search.{Search}
 use Rattle.rules.specs.declared.Phase.the-variants.{Building}
 use Rattle.rules.proofs.Laws.Openings.{Sane}
-use Rattle.rules.proofs.Laws.Histories.{told, readingsOf, Told, length-readingsOf, costs-readingsOf, getD-readingsOf, mem-readingsOf}
+use Rattle.rules.proofs.Laws.Histories.{readingsOf, Joined, length-readingsOf, costs-readingsOf, getD-readingsOf, mem-readingsOf}
 use Rattle.rules.proofs.Steps.Invariant.{Best, Inv}
 use Rattle.rules.proofs.Steps.Noting.{best-mem}
 use Rattle.rules.proofs.Steps.Accepting.{Room}
@@ -40,7 +40,7 @@ unfolding fresh
 fresh-begun n axes rule c budget h = record { inv = fresh-inv n axes rule c budget h; room = fresh-room n axes rule c budget h; counts = refl; phase = refl }
 
 module _ (o : Search) (begun : Begun o) where
-  module _ (h : List ℕ) (t : Told o h) where
+  module _ (h : List ℕ) (t : Joined o h) where
     pub whole-run : Ran [] o h
     whole-run = ran [] o (begun .inv) (begun .room) h t
 

@@ -19,7 +19,7 @@ use Rattle.rules.specs.declared.Verdict.{Verdict}
 use Rattle.rules.specs.declared.Verdict.the-variants.{Accepted, Refused}
 use Rattle.rules.proofs.Laws.Tests.{tests}
 use Rattle.rules.proofs.Laws.Openings.{check-iff}
-use Rattle.rules.proofs.Laws.Histories.{Told, told-snoc, readingsOf, run-append}
+use Rattle.rules.proofs.Laws.Histories.{Joined, joined-snoc, readingsOf, run-snoc}
 use Rattle.rules.proofs.Runs.Sound.{never-damaged}
 use Rattle.rules.proofs.Runs.Begun.{Begun, whole-run, run-readings, run-best, best-shape}
 
@@ -51,7 +51,7 @@ pub shown-search : (v : Verdict) (s : Search) → shownBy v s .search ≡ s
 shown-search Accepted s = refl
 shown-search (Refused r) s = refl
 
-module _ (o : Search) (begun : Begun o) (h : List ℕ) (t : Told o h) where
+module _ (o : Search) (begun : Begun o) (h : List ℕ) (t : Joined o h) where
   -- refusal 12 is not given
   pub run-undamaged : undamaged (run o h) ≡ true
   run-undamaged = let r = whole-run o begun h t in never-damaged (readingsOf o h) (run o h) (r .inv) (r .room)
@@ -106,28 +106,28 @@ module _ (o : Search) (begun : Begun o) (h : List ℕ) (t : Told o h) where
 
   -- ---- one call
 
-  tell-told : (k c : ℕ) → joins o h k c ≡ true → Told o (h ++ c ∷ [])
-  tell-told k c e =
+  tell-joined : (k c : ℕ) → joins o h k c ≡ true → Joined o (h ++ c ∷ [])
+  tell-joined k c e =
       let p = simp and-eq-true-iff at e in
-      told-snoc o h c t (not-true (isEnded (run o h .phase)) (p .0 .0)) (omega (arith, tests))
+      joined-snoc o h c t (not-true (isEnded (run o h .phase)) (p .0 .0)) (omega (arith, tests))
 
   -- the history after a call is accepted, and the search that the call returns is that of the rules over it
   abbrev Follows : Call → Type 0
-  Follows c = Told o (history1 o h c) × (after1 (run o h) c ≡ run o (history1 o h c))
+  Follows c = Joined o (history1 o h c) × (after1 (run o h) c ≡ run o (history1 o h c))
 
   pub follows : (c : Call) → Follows c
-  unfolding asking showing telling run
+  unfolding asking showing telling
   follows ask = (t, asked-search (askVerdict (run o h)) (run o h))
   follows best = (t, shown-search (bestVerdict (run o h)) (run o h))
   follows (tell k c) = go (joins o h k c) refl
     where
-      go : (b : Bool) → joins o h k c ≡ b → Told o (cond b (h ++ c ∷ []) h) × (toldBy (tellVerdict (run o h) k c) (run o h) c .search ≡ run o (cond b (h ++ c ∷ []) h))
-      go true e = (tell-told k c e, rw (tell-joins k c .1 e) (sym (run-append o h (c ∷ []))))
+      go : (b : Bool) → joins o h k c ≡ b → Joined o (cond b (h ++ c ∷ []) h) × (toldBy (tellVerdict (run o h) k c) (run o h) c .search ≡ run o (cond b (h ++ c ∷ []) h))
+      go true e = (tell-joined k c e, rw (tell-joins k c .1 e) (sym (run-snoc o h c)))
       go false e = (t, told-refused (tellVerdict (run o h) k c) (run o h) c (λ a. true≢false (sym (tell-joins k c .0 a) ∙ e)))
 
 -- ---- a list of calls
 
-pub all-follow : (o : Search) (begun : Begun o) (cs : List Call) (h : List ℕ) → Told o h → Told o (historyFrom o h cs) × (after (run o h) cs ≡ run o (historyFrom o h cs))
+pub all-follow : (o : Search) (begun : Begun o) (cs : List Call) (h : List ℕ) → Joined o h → Joined o (historyFrom o h cs) × (after (run o h) cs ≡ run o (historyFrom o h cs))
 unfolding after historyFrom
 all-follow o begun [] h t = (t, refl)
 all-follow o begun (c ∷ cs) h t =

@@ -9,7 +9,7 @@ use lib.ListN.{length, getD, take, drop, length-append}
 use lib.Seq.{append-snoc, split-at}
 use Rattle.rules.specs.Simplex.{point}
 use Rattle.rules.specs.Trial.{trial}
-use Rattle.rules.specs.Accept.{Piece, build, shrink, accept, run}
+use Rattle.rules.specs.Accept.{Piece, build, shrink, run}
 use Rattle.rules.specs.Calls.{isEnded, maxCost, standingOf}
 use Rattle.rules.specs.History.{reading, EarliestLeast}
 use Rattle.rules.specs.Tally.{made, others, Ends}
@@ -21,7 +21,7 @@ use Rattle.rules.specs.declared.Phase.{Phase}
 use Rattle.rules.specs.declared.Phase.the-variants.{Building, Reflecting, Expanding, Contracting, Shrinking, Probing, Ended}
 use Rattle.rules.specs.declared.Cause.the-variants.{Settled, Budget}
 use Rattle.rules.proofs.Laws.Openings.{trial-within}
-use Rattle.rules.proofs.Laws.Histories.{told, readingsOf, Told, run-append, made-append, reading-append, told-left, told-right}
+use Rattle.rules.proofs.Laws.Histories.{readingsOf, Joined, run-append, run-snoc, made-append, reading-append, joined-left, joined-right}
 use Rattle.rules.proofs.Steps.Invariant.{Leads}
 use Rattle.rules.proofs.Steps.Accepting.{accept-step}
 use Rattle.rules.proofs.Runs.Running.{ran}
@@ -42,36 +42,32 @@ by-budget (Ended Budget) e d = refl
 module _ (o : Search) (begun : Begun o) where
   -- ---- a history and what came after it
 
-  module _ (before : List ℕ) (c : ℕ) (since : List ℕ) (t : Told o (before ++ c ∷ since)) where
+  module _ (before : List ℕ) (c : ℕ) (since : List ℕ) (t : Joined o (before ++ c ∷ since)) where
     -- the history up to c, and the rest
     split : (before ++ c ∷ []) ++ since ≡ before ++ c ∷ since
     split = append-snoc before c since
 
-    told-both : Told o ((before ++ c ∷ []) ++ since)
-    told-both = rw split t
+    joined-both : Joined o ((before ++ c ∷ []) ++ since)
+    joined-both = rw split t
 
-    told-here : Told o (before ++ c ∷ [])
-    told-here = told-left o (before ++ c ∷ []) since told-both
+    joined-here : Joined o (before ++ c ∷ [])
+    joined-here = joined-left o (before ++ c ∷ []) since joined-both
 
-    told-since : Told (run o (before ++ c ∷ [])) since
-    told-since = told-right o (before ++ c ∷ []) since told-both
+    joined-since : Joined (run o (before ++ c ∷ [])) since
+    joined-since = joined-right o (before ++ c ∷ []) since joined-both
 
     -- c is told to a search that has not ended
     accepts-here : (isEnded (run o before .phase) ≡ false) × (c ≤ maxCost)
-    unfolding Told
-    accepts-here = let r = told-right o before (c ∷ since) t in (r .0, r .1)
-
-    run-here : run o (before ++ c ∷ []) ≡ accept (run o before) c
-    unfolding run
-    run-here = run-append o before (c ∷ [])
+    unfolding Joined
+    accepts-here = let r = joined-right o before (c ∷ since) t in (r .0, r .1)
 
     -- the first vertex at the end of a piece
     pub run-first : Ends o before c → (k : ℕ) × EarliestLeast (before ++ c ∷ []) k × (take 1 (standingOf (run o (before ++ c ∷ []))) ≡ reading o (before ++ c ∷ since) k ∷ [])
     run-first ends =
-        let r = whole-run o begun before (told-left o before (c ∷ since) t) in
+        let r = whole-run o begun before (joined-left o before (c ∷ since) t) in
         let g = accept-step (readingsOf o before) (run o before) (r .inv) (r .room) c (accepts-here .0) (accepts-here .1) in
-        let leads : Leads (standingOf (run o (before ++ c ∷ []))) (run o (before ++ c ∷ []) .best) = rw run-here (g .first ends) in
-        let b = run-best o begun (before ++ c ∷ []) told-here (simp length-append (omega arith)) in
+        let leads : Leads (standingOf (run o (before ++ c ∷ []))) (run o (before ++ c ∷ []) .best) = rw (run-snoc o before c) (g .first ends) in
+        let b = run-best o begun (before ++ c ∷ []) joined-here (simp length-append (omega arith)) in
         let same : reading o (before ++ c ∷ since) (b .0) ≡ reading o (before ++ c ∷ []) (b .0) = rw (← split) (reading-append o (before ++ c ∷ []) since (b .0) (b .1 .told)) in
         (b .0, b .1, leads ∙ ap (λ (v : Vertex). v ∷ []) (b .2 ∙ sym same))
 
@@ -83,26 +79,26 @@ module _ (o : Search) (begun : Begun o) where
     pub falls-since : made build (run o (before ++ c ∷ [])) since ≡ 0 → made shrink (run o (before ++ c ∷ [])) since ≡ 0 → others (run o (before ++ c ∷ [])) since ≤ standingTotal o (before ++ c ∷ [])
     falls-since builds shrinks =
         let here = before ++ c ∷ [] in
-        let r = whole-run o begun here told-here in
-        omega (arith, ran (readingsOf o here) (run o here) (r .inv) (r .room) since told-since .falls builds shrinks)
+        let r = whole-run o begun here joined-here in
+        omega (arith, ran (readingsOf o here) (run o here) (r .inv) (r .room) since joined-since .falls builds shrinks)
 
   -- ---- settled exactly when
 
-  pub run-settled-only : (h : List ℕ) → Told o h → run o h .phase ≡ Ended Settled → (before : List ℕ) × (round : List ℕ) × (h ≡ before ++ round) × FullRound o before round
+  pub run-settled-only : (h : List ℕ) → Joined o h → run o h .phase ≡ Ended Settled → (before : List ℕ) × (round : List ℕ) × (h ≡ before ++ round) × FullRound o before round
   unfolding run
   run-settled-only h t e = rw e at (rounds o [] o refl [] (begun .inv) (begun .room) refl (rw (begun .phase) tt) h t)
 
-  pub run-settled-when : (before round : List ℕ) → Told o (before ++ round) → FullRound o before round → run o (before ++ round) .phase ≡ Ended Settled
+  pub run-settled-when : (before round : List ℕ) → Joined o (before ++ round) → FullRound o before round → run o (before ++ round) .phase ≡ Ended Settled
   run-settled-when before round t f =
-      let r = whole-run o begun before (told-left o before round t) in
+      let r = whole-run o begun before (joined-left o before round t) in
       let s = run o before in
       let many : 0 + length round ≡ 2 * s .setup .n = rw (r .kept) (omega (arith, f .full)) in
       rw (run-append o before round)
-      (settles (readingsOf o before) s (r .inv) (r .room) round 0 (f .begins) many (omega (arith, r .inv .noted .sane .atLeast)) (f .noneLower) (told-right o before round t))
+      (settles (readingsOf o before) s (r .inv) (r .room) round 0 (f .begins) many (omega (arith, r .inv .noted .sane .atLeast)) (f .noneLower) (joined-right o before round t))
 
   -- ---- the budget
 
-  module _ (h : List ℕ) (t : Told o h) where
+  module _ (h : List ℕ) (t : Joined o h) where
     -- a search that has ended by its budget has that many readings
     spent-readings : run o h .phase ≡ Ended Budget → run o h .readings ≡ run o h .setup .budget
     spent-readings e = rw e at (whole-run o begun h t .inv .phase)
@@ -126,14 +122,14 @@ module _ (o : Search) (begun : Begun o) where
 
   -- ---- within the limits
 
-  pub run-within : (h : List ℕ) → Told o h → isEnded (run o h .phase) ≡ false → Within (o .setup) (trial (run o h))
+  pub run-within : (h : List ℕ) → Joined o h → isEnded (run o h .phase) ≡ false → Within (o .setup) (trial (run o h))
   run-within h t e =
       let r = whole-run o begun h t in
       subst (λ (t : Setup). Within t (trial (run o h))) (r .kept) (trial-within (run o h) (r .inv .noted .sane) e)
 
-  pub run-within-told : (h : List ℕ) → Told o h → (k : ℕ) → k < length h → Within (o .setup) (reading o h k .point)
-  unfolding Told
+  pub run-within-told : (h : List ℕ) → Joined o h → (k : ℕ) → k < length h → Within (o .setup) (reading o h k .point)
+  unfolding Joined
   run-within-told h t k l =
       let cut : take k h ++ getD h k 0 ∷ drop (suc k) h ≡ h = sym (split-at h k 0 l) in
-      let here : Told o (take k h ++ getD h k 0 ∷ drop (suc k) h) = rw cut t in
-      run-within (take k h) (told-left o (take k h) _ here) (told-right o (take k h) (getD h k 0 ∷ drop (suc k) h) here .0)
+      let here : Joined o (take k h ++ getD h k 0 ∷ drop (suc k) h) = rw cut t in
+      run-within (take k h) (joined-left o (take k h) _ here) (joined-right o (take k h) (getD h k 0 ∷ drop (suc k) h) here .0)

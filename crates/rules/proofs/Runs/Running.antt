@@ -16,7 +16,7 @@ use Rattle.rules.specs.declared.Counts.{Counts}
 use Rattle.rules.specs.declared.Vertex.{Vertex}
 use Rattle.rules.specs.declared.Search.{Search}
 use Rattle.rules.proofs.Laws.Openings.{Sane}
-use Rattle.rules.proofs.Laws.Histories.{told, readingsOf, Told, countOf-append}
+use Rattle.rules.proofs.Laws.Histories.{readingOf, readingsOf, Joined, countOf-append}
 use Rattle.rules.proofs.Steps.Invariant.{Inv}
 use Rattle.rules.proofs.Steps.Noting.{_▹_}
 use Rattle.rules.proofs.Steps.Stepping.{Counted, Stepped, othersIn, standingCosts}
@@ -65,14 +65,14 @@ falls-append ps qs a b c h g x y =
     let second = g (omega arith) (omega arith) in
     rw (countOf-append reflection ps qs, countOf-append expansion ps qs, countOf-append contraction ps qs) (omega arith)
 
-ran-more : (rs : List Vertex) (s : Search) (c : ℕ) (h : List ℕ) → Stepped (rs ▹ told s c) (finishes (s .phase) s c) (isProbe (s .phase)) s (accept s c)
-    → Ran (rs ▹ told s c) (accept s c) h → Ran rs s (c ∷ h)
+ran-more : (rs : List Vertex) (s : Search) (c : ℕ) (h : List ℕ) → Stepped (rs ▹ readingOf s c) (finishes (s .phase) s c) (isProbe (s .phase)) s (accept s c)
+    → Ran (rs ▹ readingOf s c) (accept s c) h → Ran rs s (c ∷ h)
 unfolding run readingsOf pieces probesIn openIn
 ran-more rs s c h g r =
     let ps = finishes (s .phase) s c in
     let u = accept s c in
     record {
-      inv = rw (append-snoc rs (told s c) (readingsOf u h)) at (r .inv);
+      inv = rw (append-snoc rs (readingOf s c) (readingsOf u h)) at (r .inv);
       room = r .room;
       kept = r .kept ∙ g .kept;
       counts = counted-append ps (pieces u h) (isProbe (s .phase)) (probesIn u h) (s .counts) (u .counts) (run u h .counts) (g .counts) (r .counts);
@@ -80,12 +80,12 @@ ran-more rs s c h g r =
       falls = falls-append ps (pieces u h) (standingCosts s) (standingCosts u) (standingCosts (run u h)) (g .falls) (r .falls);
     }
 
-pub ran : (rs : List Vertex) (s : Search) → Inv rs s → Room s → (h : List ℕ) → Told s h → Ran rs s h
-unfolding Told
+pub ran : (rs : List Vertex) (s : Search) → Inv rs s → Room s → (h : List ℕ) → Joined s h → Ran rs s h
+unfolding Joined
 ran rs s inv room [] t = ran-none rs s inv room
 ran rs s inv room (c ∷ h) t =
     let g = accept-step rs s inv room c (t .0) (t .1) in
-    ran-more rs s c h g (ran (rs ▹ told s c) (accept s c) (g .inv) (accept-room rs s inv room c (t .0) (t .1)) h (t .2))
+    ran-more rs s c h g (ran (rs ▹ readingOf s c) (accept s c) (g .inv) (accept-room rs s inv room c (t .0) (t .1)) h (t .2))
 
 -- ---- from the opening on
 

@@ -19,10 +19,10 @@ use Rattle.rules.specs.declared.Phase.{Phase}
 use Rattle.rules.specs.declared.Phase.the-variants.{Building, Reflecting, Expanding, Contracting, Shrinking, Probing, Ended}
 use Rattle.rules.specs.declared.Cause.the-variants.{Settled, Budget}
 use Rattle.rules.proofs.Laws.Tests.{tests, pick-elim, spent-elim}
-use Rattle.rules.proofs.Laws.Histories.{told, Told, run-append}
+use Rattle.rules.proofs.Laws.Histories.{readingOf, Joined, run-snoc}
 use Rattle.rules.proofs.Steps.Invariant.{Inv}
 use Rattle.rules.proofs.Steps.Noting.{_▹_, best-stays, below-snoc, old-cost, new-cost}
-use Rattle.rules.proofs.Steps.Stepping.{Fresh}
+use Rattle.rules.proofs.Steps.Stepping.{NoRound}
 use Rattle.rules.proofs.Steps.Accepting.{Room, accept-step, accept-room}
 
 -- ---- a probe told
@@ -42,18 +42,18 @@ spend b c j n q (going l m e) = stopping (λ k. m) (ap (spentPhase true) e)
 spend b c j n q (stopping m e) = stopping m (ap (spentPhase true) e)
 
 module _ (s : Search) (c j : ℕ) (e : s .phase ≡ Probing j) where
-  probed : accept s c ≡ budgeted (probedOn j (s .best .cost) (told s c) (noted (told s c) s))
+  probed : accept s c ≡ budgeted (probedOn j (s .best .cost) (readingOf s c) (noted (readingOf s c) s))
   unfolding accept advanced
-  probed = ap (λ (p : Phase). budgeted (advanced p (s .best .cost) (told s c) (noted (told s c) s))) e
+  probed = ap (λ (p : Phase). budgeted (advanced p (s .best .cost) (readingOf s c) (noted (readingOf s c) s))) e
 
   -- either way the best is as noted
-  best-after : accept s c .best ≡ bestAfter (s .readings) (told s c) (s .best)
+  best-after : accept s c .best ≡ bestAfter (s .readings) (readingOf s c) (s .best)
   unfolding probedOn
   best-after =
-      let P : Search → Type 0 = λ u. u .best ≡ bestAfter (s .readings) (told s c) (s .best) in
+      let P : Search → Type 0 = λ u. u .best ≡ bestAfter (s .readings) (readingOf s c) (s .best) in
       ap (λ (u : Search). u .best) probed ∙ pick-elim P (endsRound c (s .best .cost)) (λ t. refl) (λ t. pick-elim P (isFull j s) (λ d. refl) (λ d. refl))
 
-  before-budget : Outcome (s .best .cost) c j (s .setup .n) (probedOn j (s .best .cost) (told s c) (noted (told s c) s) .phase)
+  before-budget : Outcome (s .best .cost) c j (s .setup .n) (probedOn j (s .best .cost) (readingOf s c) (noted (readingOf s c) s) .phase)
   unfolding probedOn
   before-budget =
       let P : Search → Type 0 = λ u. Outcome (s .best .cost) c j (s .setup .n) (u .phase) in
@@ -62,7 +62,7 @@ module _ (s : Search) (c j : ℕ) (e : s .phase ≡ Probing j) where
 
   outcome : Outcome (s .best .cost) c j (s .setup .n) (accept s c .phase)
   outcome =
-      let u = probedOn j (s .best .cost) (told s c) (noted (told s c) s) in
+      let u = probedOn j (s .best .cost) (readingOf s c) (noted (readingOf s c) s) in
       let P = Outcome (s .best .cost) c j (s .setup .n) in
       subst P (ap (λ (x : Search). x .phase) (sym probed)) (spent-elim P (isSpent u) (λ t. spend (s .best .cost) c j (s .setup .n) (u .phase) before-budget) (λ t. before-budget))
 
@@ -72,7 +72,7 @@ module _ (s : Search) (c j : ℕ) (e : s .phase ≡ Probing j) where
 
   -- a probe that is not lower leaves the best cost
   best-kept : (rs : List Vertex) → Inv rs s → s .best .cost ≤ c → accept s c .best .cost ≡ s .best .cost
-  best-kept rs inv l = ap (λ (v : Vertex). v .cost) (best-after ∙ best-stays (s .readings) (told s c) (s .best) (some-read rs inv) l)
+  best-kept rs inv l = ap (λ (v : Vertex). v .cost) (best-after ∙ best-stays (s .readings) (readingOf s c) (s .best) (some-read rs inv) l)
 
 -- ---- a full round settles
 
@@ -91,8 +91,8 @@ earlier-goes b c j n q (going l k e) h m live = e
 earlier-goes b c j n q (stopping k e) h m live = absurd (true≢false (sym (ap isEnded e) ∙ live))
 
 pub settles : (rs : List Vertex) (s : Search) → Inv rs s → Room s → (q : List ℕ) (j : ℕ) → s .phase ≡ Probing j → j + length q ≡ 2 * s .setup .n → 1 ≤ length q
-    → ((i : ℕ) → i < length q → s .best .cost ≤ getD q i 0) → Told s q → run s q .phase ≡ Ended Settled
-unfolding run Told
+    → ((i : ℕ) → i < length q → s .best .cost ≤ getD q i 0) → Joined s q → run s q .phase ≡ Ended Settled
+unfolding run Joined
 settles rs s inv room [] j e many some low t = absurd (not-suc-le-zero some)
 settles rs s inv room (c ∷ []) j e many some low t = last-settles (s .best .cost) c j (s .setup .n) (accept s c .phase) (outcome s c j e) (low 0 (omega arith)) many
 settles rs s inv room (c ∷ d ∷ q) j e many some low t =
@@ -100,7 +100,7 @@ settles rs s inv room (c ∷ d ∷ q) j e many some low t =
     let k = earlier-goes (s .best .cost) c j (s .setup .n) (accept s c .phase) (outcome s c j e) l (omega arith) (t .2 .0) in
     let g = accept-step rs s inv room c (t .0) (t .1) in
     let b = best-kept s c j e rs inv l in
-    settles (rs ▹ told s c) (accept s c) (g .inv) (accept-room rs s inv room c (t .0) (t .1)) (d ∷ q) (j + 1) k (rw (g .kept) (omega arith)) (omega arith)
+    settles (rs ▹ readingOf s c) (accept s c) (g .inv) (accept-room rs s inv room c (t .0) (t .1)) (d ∷ q) (j + 1) k (rw (g .kept) (omega arith)) (omega arith)
     (λ i m. rw b (low (suc i) (suc-le-suc m))) (t .2)
 
 -- ---- nothing else does
@@ -126,16 +126,16 @@ Rounds o h b (Ended Settled) = (before : List ℕ) × (round : List ℕ) × (h �
 Rounds o h b (Ended Budget) = Unit {0}
 
 -- a round begins with no cost told
-begun : (o : Search) (h : List ℕ) (p : Phase) → run o h .phase ≡ p → Fresh p → Rounds o h (run o h .best .cost) p
-begun o h (Building i) e f = tt
-begun o h Reflecting e f = tt
-begun o h (Expanding g) e f = tt
-begun o h (Contracting side g) e f = tt
-begun o h (Shrinking j) e f = tt
-begun o h (Probing zero) e f = record { before = h; round = []; splits = rw append-nil; begins = e; many = refl; noneLower = λ i l. absurd (not-suc-le-zero l); same = refl }
-begun o h (Probing (suc p)) e f = absurd f
-begun o h (Ended Settled) e f = absurd f
-begun o h (Ended Budget) e f = tt
+round-begins : (o : Search) (h : List ℕ) (p : Phase) → run o h .phase ≡ p → NoRound p → Rounds o h (run o h .best .cost) p
+round-begins o h (Building i) e f = tt
+round-begins o h Reflecting e f = tt
+round-begins o h (Expanding g) e f = tt
+round-begins o h (Contracting side g) e f = tt
+round-begins o h (Shrinking j) e f = tt
+round-begins o h (Probing zero) e f = record { before = h; round = []; splits = rw append-nil; begins = e; many = refl; noneLower = λ i l. absurd (not-suc-le-zero l); same = refl }
+round-begins o h (Probing (suc p)) e f = absurd f
+round-begins o h (Ended Settled) e f = absurd f
+round-begins o h (Ended Budget) e f = tt
 
 -- one more cost that is not lower
 round-more : (o : Search) (h : List ℕ) (j b c d : ℕ) → Round o h j b → b ≤ c → d ≡ b → Round o (h ++ c ∷ []) (j + 1) d
@@ -163,13 +163,12 @@ round-on o h j b c d q r (stopping m e) k = rw e tt
 -- ---- along a history
 
 module _ (o : Search) (h : List ℕ) (s : Search) (is : run o h ≡ s) (rs : List Vertex) (inv : Inv rs s) (room : Room s) (kept : s .setup ≡ o .setup) (c : ℕ) (live : isEnded (s .phase) ≡ false) (low : c ≤ maxCost) where
-  pub run-snoc : run o (h ++ c ∷ []) ≡ accept s c
-  unfolding run
-  run-snoc = run-append o h (c ∷ []) ∙ ap (λ (u : Search). accept u c) is
+  next : run o (h ++ c ∷ []) ≡ accept s c
+  next = run-snoc o h c ∙ ap (λ (u : Search). accept u c) is
 
   new-round : isProbe (s .phase) ≡ 0 → Rounds o (h ++ c ∷ []) (accept s c .best .cost) (accept s c .phase)
   new-round e =
-      rw run-snoc at (begun o (h ++ c ∷ []) (run o (h ++ c ∷ []) .phase) refl (rw run-snoc (accept-step rs s inv room c live low .fresh e)))
+      rw next at (round-begins o (h ++ c ∷ []) (run o (h ++ c ∷ []) .phase) refl (rw next (accept-step rs s inv room c live low .noRound e)))
 
   same-round : (j : ℕ) → s .phase ≡ Probing j → Round o h j (s .best .cost) → Rounds o (h ++ c ∷ []) (accept s c .best .cost) (accept s c .phase)
   same-round j e r =
@@ -186,12 +185,12 @@ module _ (o : Search) (h : List ℕ) (s : Search) (is : run o h ≡ s) (rs : Lis
   round-step (Ended cause) e r = new-round (ap isProbe e)
 
 pub rounds : (o : Search) (p : List ℕ) (s : Search) → run o p ≡ s → (rs : List Vertex) → Inv rs s → Room s → s .setup ≡ o .setup → Rounds o p (s .best .cost) (s .phase)
-    → (q : List ℕ) → Told s q → Rounds o (p ++ q) (run s q .best .cost) (run s q .phase)
-unfolding run Told
+    → (q : List ℕ) → Joined s q → Rounds o (p ++ q) (run s q .best .cost) (run s q .phase)
+unfolding run Joined
 rounds o p s is rs inv room kept r [] t = rw append-nil r
 rounds o p s is rs inv room kept r (c ∷ q) t =
     let g = accept-step rs s inv room c (t .0) (t .1) in
-    let next = run-snoc o p s is rs inv room kept c (t .0) (t .1) in
+    let after = next o p s is rs inv room kept c (t .0) (t .1) in
     let on = round-step o p s is rs inv room kept c (t .0) (t .1) (s .phase) refl r in
     rw (append-snoc p c q) at
-    (rounds o (p ++ c ∷ []) (accept s c) next (rs ▹ told s c) (g .inv) (accept-room rs s inv room c (t .0) (t .1)) (g .kept ∙ kept) on q (t .2))
+    (rounds o (p ++ c ∷ []) (accept s c) after (rs ▹ readingOf s c) (g .inv) (accept-room rs s inv room c (t .0) (t .1)) (g .kept ∙ kept) on q (t .2))

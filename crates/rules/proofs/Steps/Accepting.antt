@@ -17,10 +17,10 @@ use Rattle.rules.specs.declared.Cause.{Cause}
 use Rattle.rules.specs.declared.Cause.the-variants.{Budget}
 use Rattle.rules.proofs.Laws.Tests.{tests, spent-elim}
 use Rattle.rules.proofs.Laws.Lists.{length-point, point-again}
-use Rattle.rules.proofs.Laws.Histories.{told}
+use Rattle.rules.proofs.Laws.Histories.{readingOf}
 use Rattle.rules.proofs.Steps.Invariant.{Fine, Noted, At, Inv}
 use Rattle.rules.proofs.Steps.Noting.{_▹_, NotedWith, note}
-use Rattle.rules.proofs.Steps.Stepping.{Stepped, Fresh}
+use Rattle.rules.proofs.Steps.Stepping.{Stepped, NoRound}
 use Rattle.rules.proofs.Steps.Gathering.{build-step, shrink-step}
 use Rattle.rules.proofs.Steps.Iterating.{reflect-step, expand-step, contract-step}
 use Rattle.rules.proofs.Steps.Probing.{probe-step}
@@ -62,8 +62,8 @@ spent-at u vs gs h =
     spent-elim P (isSpent u) (λ e. spent-cases P (u .phase) (omega (arith, tests)) (λ cause q. subst P q h)) (λ e. h)
 
 -- the budget settles no search
-spent-fresh : (u : Search) → Fresh (u .phase) → Fresh (budgeted u .phase)
-spent-fresh u h = spent-elim Fresh (isSpent u) (λ e. spent-cases Fresh (u .phase) tt (λ cause q. subst Fresh q h)) (λ e. h)
+spent-no-round : (u : Search) → NoRound (u .phase) → NoRound (budgeted u .phase)
+spent-no-round u h = spent-elim NoRound (isSpent u) (λ e. spent-cases NoRound (u .phase) tt (λ cause q. subst NoRound q h)) (λ e. h)
 
 -- a search that has not ended has readings left
 abbrev pub Room : Search → Type 0
@@ -94,29 +94,29 @@ budget-step rs ps probe s u h =
       unfinished = h .unfinished;
       falls = h .falls;
       first = h .first;
-      fresh = λ e. spent-fresh u (h .fresh e);
+      noRound = λ e. spent-no-round u (h .noRound e);
     }
 
 -- ---- the accepted reading
 
-fine-trial : (s : Search) (c : ℕ) → s .setup .n ≤ 8 → c ≤ maxCost → Fine (s .setup .n) (told s c)
+fine-trial : (s : Search) (c : ℕ) → s .setup .n ≤ 8 → c ≤ maxCost → Fine (s .setup .n) (readingOf s c)
 unfolding trial
 fine-trial s c l h =
     let f = coordinate s (s .phase) in
     record { shape = point-again (s .setup .n) f; eight = length-point (s .setup .n) f l; low = h }
 
 module _ (rs : List Vertex) (s : Search) (inv : Inv rs s) (room : Room s) (c : ℕ) (live : isEnded (s .phase) ≡ false) (low : c ≤ maxCost) where
-  noted-now : Noted (rs ▹ told s c) (s .setup) (s .readings + 1) (bestAfter (s .readings) (told s c) (s .best))
-  noted-now = note rs (s .setup) (s .readings) (s .best) (told s c) (inv .noted) (fine-trial s c (inv .noted .sane .atMost8) low) (room live)
+  noted-now : Noted (rs ▹ readingOf s c) (s .setup) (s .readings + 1) (bestAfter (s .readings) (readingOf s c) (s .best))
+  noted-now = note rs (s .setup) (s .readings) (s .best) (readingOf s c) (inv .noted) (fine-trial s c (inv .noted .sane .atMost8) low) (room live)
 
-  advanced-now : Stepped (rs ▹ told s c) (finishes (s .phase) s c) (isProbe (s .phase)) s (advanced (s .phase) (s .best .cost) (told s c) (noted (told s c) s))
+  advanced-now : Stepped (rs ▹ readingOf s c) (finishes (s .phase) s c) (isProbe (s .phase)) s (advanced (s .phase) (s .best .cost) (readingOf s c) (noted (readingOf s c) s))
   unfolding trial
-  advanced-now = advance rs (told s c) s inv noted-now (s .phase) live refl (inv .phase)
+  advanced-now = advance rs (readingOf s c) s inv noted-now (s .phase) live refl (inv .phase)
 
-  pub accept-step : Stepped (rs ▹ told s c) (finishes (s .phase) s c) (isProbe (s .phase)) s (accept s c)
+  pub accept-step : Stepped (rs ▹ readingOf s c) (finishes (s .phase) s c) (isProbe (s .phase)) s (accept s c)
   unfolding accept
-  accept-step = budget-step (rs ▹ told s c) (finishes (s .phase) s c) (isProbe (s .phase)) s _ advanced-now
+  accept-step = budget-step (rs ▹ readingOf s c) (finishes (s .phase) s c) (isProbe (s .phase)) s _ advanced-now
 
   pub accept-room : Room (accept s c)
   unfolding accept
-  accept-room = budget-room (rs ▹ told s c) _ (advanced-now .inv)
+  accept-room = budget-room (rs ▹ readingOf s c) _ (advanced-now .inv)

@@ -16,7 +16,7 @@ use Rattle.rules.proofs.Laws.Order.{length-insert, ordered-insert}
 use Rattle.rules.proofs.Steps.Invariant.{Leads, Gathers, AtBuild, AtShrink, Inv}
 use Rattle.rules.proofs.Steps.Noting.{_▹_, NotedWith, known-more, known-new, leads-on}
 use Rattle.rules.proofs.Steps.Stepping.{Stepped, pieces-are, gathered-are, finish}
-use Rattle.rules.proofs.Laws.Finishing.{build-last, build-more, shrink-last, shrink-more}
+use Rattle.rules.proofs.Laws.Finishing.{last-ends, other-more}
 use Rattle.rules.proofs.Steps.Moving.{known-insert, goes-on, begins}
 
 -- a list with no element
@@ -98,8 +98,8 @@ module _ (rs : List Vertex) (v : Vertex) (s : Search) (inv : Inv rs s) (after : 
     build-step =
         rw (gathered i (h .many))
         (pick-elim (Stepped (rs ▹ v) (finishes (Building i) s (v .cost)) 0 s) (isLast i s)
-        (λ e. pieces-are (build-last s (v .cost) i (omega (arith, tests))) (build-ends (omega (arith, tests))))
-        (λ e. pieces-are (build-more s (v .cost) i (omega (arith, tests))) (build-on i refl (omega (arith, tests, h .high)))))
+        (λ e. pieces-are (last-ends build i (s .setup .n) (omega (arith, tests))) (build-ends (omega (arith, tests))))
+        (λ e. pieces-are (other-more build i (s .setup .n) (omega (arith, tests))) (build-on i refl (omega (arith, tests, h .high)))))
 
   -- ---- a shrink
 
@@ -131,7 +131,7 @@ module _ (rs : List Vertex) (v : Vertex) (s : Search) (inv : Inv rs s) (after : 
     shrink-step =
         rw (gathered j (h .many))
         (pick-elim (Stepped (rs ▹ v) (finishes (Shrinking j) s (v .cost)) 0 s) (isLast j s)
-        (λ e. pieces-are (shrink-last s (v .cost) j (omega (arith, tests))) (shrink-ends _ _ (omega (arith, tests))))
+        (λ e. pieces-are (last-ends shrink j (s .setup .n) (omega (arith, tests))) (shrink-ends _ _ (omega (arith, tests))))
         (λ e.
-        pieces-are (shrink-more s (v .cost) j (omega (arith, tests)))
+        pieces-are (other-more shrink j (s .setup .n) (omega (arith, tests)))
         (goes-on rs v s inv after _ (insert v (inv .gs)) _ gathers-on (h .some) (shrink-next (omega (arith, tests, h .high))) tt)))

@@ -25,7 +25,7 @@ use Rattle.rules.proofs.Laws.Order.{length-insert, ordered-insert, mem-
 use Rattle.rules.proofs.Laws.Places.{unpack-take}
 use Rattle.rules.proofs.Steps.Invariant.{Known, Leads, Stands, Gathers, Equation, At, Inv}
 use Rattle.rules.proofs.Steps.Noting.{_▹_, NotedWith, known-more}
-use Rattle.rules.proofs.Steps.Stepping.{Counted, Stepped, Fresh, readingsIn, othersIn, standingCosts, standing-are, whole, finish}
+use Rattle.rules.proofs.Steps.Stepping.{Counted, Stepped, NoRound, readingsIn, othersIn, standingCosts, standing-are, whole, finish}
 
 -- ---- laws that both ways share
 
@@ -86,10 +86,10 @@ module _ (rs : List Vertex) (v : Vertex) (s : Search) (inv : Inv rs s) (after : 
   goes : (probe : ℕ) (p : Phase) (gs : List Vertex) (gathered : Simplex) (center : List Float) (c : Counts) → Counted [] probe (s .counts) c → c .builds ≡ s .counts .builds
       → Gathers (rs ▹ v) gs gathered → Equation (s .setup .n) (s .readings + 1) c
       → c .unfinished ≡ cond (isOpen [] probe (s .readings)) (s .counts .unfinished + 1) 0
-      → At p (s .setup) (s .standing) (inv .vs) gs (s .readings + 1) c (bestAfter (s .readings) v (s .best)) → (probe ≡ 0 → Fresh p)
+      → At p (s .setup) (s .standing) (inv .vs) gs (s .readings + 1) c (bestAfter (s .readings) v (s .best)) → (probe ≡ 0 → NoRound p)
       → Stepped (rs ▹ v) [] probe s (ongoing p gathered center c)
   unfolding countOf
-  goes probe p gs gathered center c counts same gathers equation unfinished here fresh =
+  goes probe p gs gathered center c counts same gathers equation unfinished here none =
       record {
         inv =
             record {
@@ -106,28 +106,28 @@ module _ (rs : List Vertex) (v : Vertex) (s : Search) (inv : Inv rs s) (after : 
         unfinished = unfinished;
         falls = λ a b. rw same (omega arith);
         first = λ l. absurd (l refl);
-        fresh = fresh;
+        noRound = none;
       }
 
   -- one reading more is open
   pub goes-on : (p : Phase) (gs : List Vertex) (gathered : Simplex) → Gathers (rs ▹ v) gs gathered → 1 ≤ s .readings
-      → At p (s .setup) (s .standing) (inv .vs) gs (s .readings + 1) (opened 1 (s .counts)) (bestAfter (s .readings) v (s .best)) → Fresh p
+      → At p (s .setup) (s .standing) (inv .vs) gs (s .readings + 1) (opened 1 (s .counts)) (bestAfter (s .readings) v (s .best)) → NoRound p
       → Stepped (rs ▹ v) [] 0 s (ongoing p gathered (s .center) (opened 1 (s .counts)))
   unfolding countOf
-  goes-on p gs gathered gathers some here fresh =
+  goes-on p gs gathered gathers some here noRound =
       let unfinished = s .counts .unfinished in
       let more : unfinished + 1 ≡ cond (isOpen [] 0 (s .readings)) (unfinished + 1) 0 = cond-elim (λ (k : ℕ). unfinished + 1 ≡ k) (isOpen [] 0 (s .readings)) (λ e. refl) (λ e. absurd (omega (arith, tests))) in
-      goes 0 p gs gathered (s .center) (opened 1 (s .counts)) (omega arith) refl gathers (omega (arith, inv .equation)) more here (λ q. fresh)
+      goes 0 p gs gathered (s .center) (opened 1 (s .counts)) (omega arith) refl gathers (omega (arith, inv .equation)) more here (λ q. noRound)
 
   -- the first reading of all is not
   pub begins : (p : Phase) (gs : List Vertex) (gathered : Simplex) → Gathers (rs ▹ v) gs gathered → s .readings ≡ 0 → s .counts .unfinished ≡ 0
-      → At p (s .setup) (s .standing) (inv .vs) gs (s .readings + 1) (opened 0 (s .counts)) (bestAfter (s .readings) v (s .best)) → Fresh p
+      → At p (s .setup) (s .standing) (inv .vs) gs (s .readings + 1) (opened 0 (s .counts)) (bestAfter (s .readings) v (s .best)) → NoRound p
       → Stepped (rs ▹ v) [] 0 s (ongoing p gathered (s .center) (opened 0 (s .counts)))
   unfolding countOf
-  begins p gs gathered gathers none closed here fresh =
+  begins p gs gathered gathers none closed here noRound =
       let unfinished = s .counts .unfinished in
       let still : unfinished + 0 ≡ cond (isOpen [] 0 (s .readings)) (unfinished + 1) 0 = cond-elim (λ (k : ℕ). unfinished + 0 ≡ k) (isOpen [] 0 (s .readings)) (λ e. absurd (omega (arith, tests))) (λ e. omega arith) in
-      goes 0 p gs gathered (s .center) (opened 0 (s .counts)) (omega arith) refl gathers (omega (arith, inv .equation)) still here (λ q. fresh)
+      goes 0 p gs gathered (s .center) (opened 0 (s .counts)) (omega arith) refl gathers (omega (arith, inv .equation)) still here (λ q. noRound)
 
   -- a probe is never open
   pub probes-on : (p : Phase) (gs : List Vertex) (gathered : Simplex) (center : List Float) → Gathers (rs ▹ v) gs gathered → 1 ≤ s .readings → s .counts .unfinished ≡ 0

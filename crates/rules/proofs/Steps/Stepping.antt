@@ -75,16 +75,16 @@ abbrev pub othersIn : List Piece → ℕ
 othersIn ps = countOf reflection ps + countOf expansion ps + countOf contraction ps
 
 -- a phase that does not go on from a probe: no round is under way, and none has settled the search
-abbrev pub Fresh : Phase → Type 0
-Fresh (Building i) = Unit {0}
-Fresh Reflecting = Unit {0}
-Fresh (Expanding f) = Unit {0}
-Fresh (Contracting side f) = Unit {0}
-Fresh (Shrinking j) = Unit {0}
-Fresh (Probing zero) = Unit {0}
-Fresh (Probing (suc p)) = ⊥
-Fresh (Ended Settled) = ⊥
-Fresh (Ended Budget) = Unit {0}
+abbrev pub NoRound : Phase → Type 0
+NoRound (Building i) = Unit {0}
+NoRound Reflecting = Unit {0}
+NoRound (Expanding f) = Unit {0}
+NoRound (Contracting side f) = Unit {0}
+NoRound (Shrinking j) = Unit {0}
+NoRound (Probing zero) = Unit {0}
+NoRound (Probing (suc p)) = ⊥
+NoRound (Ended Settled) = ⊥
+NoRound (Ended Budget) = Unit {0}
 
 -- s takes a reading and becomes u: rs are its readings then, ps the pieces finished, probe tells whether it was a probe
 pub record Stepped (rs : List Vertex) (ps : List Piece) (probe : ℕ) (s u : Search) : Type 0 where
@@ -94,7 +94,7 @@ pub record Stepped (rs : List Vertex) (ps : List Piece) (probe : ℕ) (s u : Sea
   pub unfinished : u .counts .unfinished ≡ cond (isOpen ps probe (s .readings)) (s .counts .unfinished + 1) 0
   pub falls : countOf build ps ≡ 0 → countOf shrink ps ≡ 0 → othersIn ps + standingCosts u ≤ standingCosts s
   pub first : (ps ≡ [] → ⊥) → Leads (standingOf u) (u .best)
-  pub fresh : probe ≡ 0 → Fresh (u .phase)
+  pub noRound : probe ≡ 0 → NoRound (u .phase)
 
 -- the pieces of a step, by an equation
 pub pieces-are : {rs : List Vertex} {ps qs : List Piece} {probe : ℕ} {s u : Search} → ps ≡ qs → Stepped rs qs probe s u → Stepped rs ps probe s u
@@ -118,9 +118,9 @@ gathered-are rs gs t k b gathered i h g e = rw (g .are) (unpack-take i gs (whole
 
 -- ---- the end of a build or an iteration
 
-tested-fresh : (b : Bool) → Fresh (testedPhase b)
-tested-fresh true = tt
-tested-fresh false = tt
+tested-no-round : (b : Bool) → NoRound (testedPhase b)
+tested-no-round true = tt
+tested-no-round false = tt
 
 module _ (rs : List Vertex) (v : Vertex) (s : Search) (p : Piece) (old new : List (List Float)) (vs : List Vertex) where
   tested : (b : Bool) (k : ℕ) (c : Counts) (best : Vertex) (standing : Simplex) → 1 ≤ s .setup .n → Idle 0 [] k c → Leads vs best → At (testedPhase b) (s .setup) standing vs [] k c best
@@ -155,5 +155,5 @@ module _ (rs : List Vertex) (v : Vertex) (s : Search) (p : Piece) (old new : Lis
         unfinished = closed-unfinished p (s .counts);
         falls = λ a b. rw are (falls a b);
         first = λ l. rw are leads;
-        fresh = λ e. tested-fresh (met (s .setup .rule) (s .setup .n) p old new vs);
+        noRound = λ e. tested-no-round (met (s .setup .rule) (s .setup .n) p old new vs);
       }
