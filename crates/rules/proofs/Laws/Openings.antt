@@ -48,7 +48,7 @@ axes-pass : (k i : ℕ) (xs : List Axis) (v : Verdict) → axesChecks k i xs v �
 unfolding axesChecks
 axes-pass zero i xs v h = (λ a l u. absurd (omega arith), h)
 axes-pass (suc k) i xs v h =
-    let this = axis-passes (i + 1) (getD xs i noAxis) (axesChecks k (suc i) xs v) h in
+    let this = axis-passes _ (getD xs i noAxis) (axesChecks k (suc i) xs v) h in
     let rest = axes-pass k (suc i) xs v (this .1) in
     (λ a l u. ⊎-elim (λ e. rw (← e) (this .0)) (λ m. rest .0 a m (omega arith)) (eq-or-lt-of-le l), rest .1)
 
@@ -102,7 +102,9 @@ module _ (n : ℕ) (axes : List Axis) (rule : RuleChoice) (c : Coefficients) (bu
     -- the limits of each axis are apart
     below : (a : ℕ) → a < n → (getD axes a noAxis .lo <ᶠ getD axes a noAxis .hi) ≡ true
     unfolding openVerdict
-    below a l = axes-pass n 0 axes _ (simp check-iff at h .1) .0 a (omega arith) (omega arith)
+    below a l =
+        let counts = simp (check-iff, and-eq-true-iff) at h in
+        axes-pass _ 0 axes _ (counts .1) .0 a (omega arith) (omega (arith, leb-true))
 
     -- the search keeps the axes that it was given
     pub opened-axis : (a : ℕ) → a < n → axis (fresh n axes rule c budget .setup) a ≡ getD axes a noAxis
@@ -118,7 +120,7 @@ module _ (n : ℕ) (axes : List Axis) (rule : RuleChoice) (c : Coefficients) (bu
     unfolding fresh openVerdict
     opened-sane =
         let counts = simp (check-iff, and-eq-true-iff) at h in
-        let rest = simp (check-iff, and-eq-true-iff) at (axes-pass n 0 axes _ (counts .1) .1) in
+        let rest = simp (check-iff, and-eq-true-iff) at (axes-pass _ 0 axes _ (counts .1) .1) in
         record {
           atLeast = omega (arith, leb-true);
           atMost8 = omega (arith, leb-true);
