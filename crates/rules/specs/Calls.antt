@@ -6,7 +6,7 @@ use lib.ListN.{getD, replicate}
 use lib.Dec.{leb, ltb, eqb}
 use lib.Ieee.{nan}
 use Rattle.rules.specs.Binary64.{0ᶠ}
-use Rattle.rules.specs.Simplex.{unpack, point, blank}
+use Rattle.rules.specs.Simplex.{firstOf, unpack, blank}
 use Rattle.rules.specs.Trial.{trial}
 use Rattle.rules.specs.Accept.{accept}
 use Rattle.rules.specs.Opening.{check}
@@ -128,7 +128,7 @@ toldBy (Refused r) s c = record { verdict = Refused r; search = s }
 
 -- the best reading, the search as given
 abbrev pub shownBy : Verdict → Search → Shown
-shownBy Accepted s = record { verdict = Accepted; reading = record { point = point (s .setup .n) (λ (a : ℕ). getD (s .best .point) a nan); cost = s .best .cost }; search = s }
+shownBy Accepted s = record { verdict = Accepted; reading = record { point = firstOf (s .setup .n) 0ᶠ (s .best .point); cost = s .best .cost }; search = s }
 shownBy (Refused r) s = record { verdict = Refused r; reading = blank; search = s }
 
 -- ask

@@ -6,7 +6,7 @@ use lib.ListN.{getD, take, replicate}
 use lib.Dec.{leb}
 use lib.Ieee.{Float, neg, eq}
 use Rattle.rules.specs.Binary64.{0ᶠ, 1ᶠ, 2ᶠ, 4ᶠ, 8ᶠ, farthest, _⊕_, _⊖_, _⊘_, _≤ᶠ_, _<ᶠ_}
-use Rattle.rules.specs.Simplex.{pack, blank}
+use Rattle.rules.specs.Simplex.{firstOf, pack, blank}
 use Rattle.rules.specs.Trial.{noAxis}
 use Rattle.rules.specs.declared.Axis.{Axis}
 use Rattle.rules.specs.declared.Coefficients.{Coefficients}
@@ -14,6 +14,8 @@ use Rattle.rules.specs.declared.Rule.{Rule}
 use Rattle.rules.specs.declared.Rule.the-variants.{Spread, Moved, Size}
 use Rattle.rules.specs.declared.RuleChoice.{RuleChoice}
 use Rattle.rules.specs.declared.RuleChoice.the-variants.{Unnamed, Named}
+use Rattle.rules.specs.declared.Setup.{Setup}
+use Rattle.rules.specs.declared.Phase.{Phase}
 use Rattle.rules.specs.declared.Phase.the-variants.{Building, Ended}
 use Rattle.rules.specs.declared.Cause.the-variants.{Budget}
 use Rattle.rules.specs.declared.Search.{Search}
@@ -63,12 +65,21 @@ check false r v = Refused r
 abbrev pub inRange : Float → Bool
 inRange v = (neg farthest ≤ᶠ v) && (v ≤ᶠ farthest)
 
+-- not refusal 2: "one of the four numbers fails"
+abbrev pub allInRange : Axis → Bool
+allInRange x = inRange (x .lo) && inRange (x .hi) && inRange (x .start) && inRange (x .step)
+
+-- not refusal 3: "not lo < hi, or not lo ≤ start ≤ hi, or not step > 0"
+abbrev pub inLimits : Axis → Bool
+inLimits x = (x .lo <ᶠ x .hi) && (x .lo ≤ᶠ x .start) && (x .start ≤ᶠ x .hi) && (0ᶠ <ᶠ x .step)
+
+-- not refusal 4: "start + step equals start, or step > (hi − lo)/2"
+abbrev pub inStep : Axis → Bool
+inStep x = not (eq (x .start ⊕ x .step) (x .start)) && not ((x .hi ⊖ x .lo) ⊘ 2ᶠ <ᶠ x .step)
+
 -- refusals 2, 3 and 4 "tried on each" axis; i counts the axes from 1
 abbrev pub axisChecks : ℕ → Axis → Verdict → Verdict
-axisChecks i x v =
-    check (inRange (x .lo) && inRange (x .hi) && inRange (x .start) && inRange (x .step)) (OutOfRange i)
-    (check ((x .lo <ᶠ x .hi) && (x .lo ≤ᶠ x .start) && (x .start ≤ᶠ x .hi) && (0ᶠ <ᶠ x .step)) (BadLimits i)
-    (check (not (eq (x .start ⊕ x .step) (x .start)) && not ((x .hi ⊖ x .lo) ⊘ 2ᶠ <ᶠ x .step)) (BadStep i) v))
+axisChecks i x v = check (allInRange x) (OutOfRange i) (check (inLimits x) (BadLimits i) (check (inStep x) (BadStep i) v))
 
 -- "lowest axis first": k axes, from the i-th, counted from 0, on
 unfoldable pub axesChecks : ℕ → ℕ → List Axis → Verdict → Verdict
@@ -110,18 +121,22 @@ zeroAxis = record { lo = 0ᶠ; hi = 0ᶠ; start = 0ᶠ; step = 0ᶠ }
 abbrev pub noCounts : Counts
 noCounts = record { builds = 0; reflections = 0; expansions = 0; contractions = 0; shrinks = 0; probes = 0; unfinished = 0 }
 
--- "A refused opening returns a closed search: ended with cause budget, all zero, its rule spread 0"
-unfoldable pub closed : Search
-closed = record {
-  setup = record { n = 0; axes = replicate 8 zeroAxis; coefficients = record { alpha = 0ᶠ; chi = 0ᶠ; beta = 0ᶠ; sigma = 0ᶠ }; rule = Spread 0; budget = 0 };
-  phase = Ended Budget;
+-- a search with no reading, whose build goes around x
+abbrev pub unread : Setup → Phase → List Float → Search
+unread t p x = record {
+  setup = t;
+  phase = p;
   standing = pack [];
   gathered = pack [];
-  center = replicate 8 0ᶠ;
+  center = x;
   readings = 0;
   best = blank;
   counts = noCounts;
 }
+
+-- "A refused opening returns a closed search: ended with cause budget, all zero, its rule spread 0"
+unfoldable pub closed : Search
+closed = unread (record { n = 0; axes = replicate 8 zeroAxis; coefficients = record { alpha = 0ᶠ; chi = 0ᶠ; beta = 0ᶠ; sigma = 0ᶠ }; rule = Spread 0; budget = 0 }) (Ended Budget) (replicate 8 0ᶠ)
 
 -- an axis's start
 abbrev pub startOf : Axis → Float
@@ -129,20 +144,11 @@ startOf x = x .start
 
 -- "those past n are not read": zero records stand there
 abbrev pub keep : ℕ → List Axis → List Axis
-keep n axes = take n axes ++ replicate (8 - n) zeroAxis
+keep n axes = firstOf n zeroAxis axes
 
 -- the search of an opening that is not refused: its first trial is the start point
 unfoldable pub fresh : ℕ → List Axis → RuleChoice → Coefficients → ℕ → Search
-fresh n axes rule c budget = record {
-  setup = record { n = n; axes = keep n axes; coefficients = c; rule = ruleOf rule; budget = budget };
-  phase = Building 0;
-  standing = pack [];
-  gathered = pack [];
-  center = map startOf (keep n axes);
-  readings = 0;
-  best = blank;
-  counts = noCounts;
-}
+fresh n axes rule c budget = unread (record { n = n; axes = keep n axes; coefficients = c; rule = ruleOf rule; budget = budget }) (Building 0) (map startOf (keep n axes))
 
 -- the answer by the verdict
 abbrev pub openedBy : Verdict → Search → Opened

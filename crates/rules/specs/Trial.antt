@@ -69,23 +69,29 @@ stepped x v = cond (v ⊕ x .step ≤ᶠ x .hi) (v ⊕ x .step) (v ⊖ x .step)
 unfoldable pub built : Setup → List Float → ℕ → ℕ → Float
 built t x i a = let v = getD x a nan in clamped t a (cond (eqb i (suc a)) (stepped (axis t a) v) v)
 
--- probe p, from 0, of a round at b: "for each axis, the clamp of b + d, then of b − d, with d = step·0.0009765625"
-unfoldable pub probed : Setup → List Float → ℕ → ℕ → Float
-probed t b p a =
-    let v = getD b a nan in
-    let d = axis t a .step ⊗ probeFactor in
-    clamped t a (cond (eqb (p / 2) a) (cond (eqb (p % 2) 0) (v ⊕ d) (v ⊖ d)) v)
+-- "b + d, then .. b − d, with d = step·0.0009765625" on the axis of probe p, the coordinate v itself on every other axis a
+abbrev pub probeStep : Axis → Float → ℕ → ℕ → Float
+probeStep x v p a = let d = x .step ⊗ probeFactor in cond (eqb (p / 2) a) (cond (eqb (p % 2) 0) (v ⊕ d) (v ⊖ d)) v
 
--- coordinate a of the trial of each phase; an ended search has none
-abbrev pub coordinate : Search → Phase → ℕ → Float
-coordinate s (Building i) a = built (s .setup) (s .center) i a
-coordinate s Reflecting a = reflected (s .setup) (s .standing .points) a
-coordinate s (Expanding f) a = expanded (s .setup) (s .standing .points) a
-coordinate s (Contracting side f) a = contracted (s .setup) (s .standing .points) side a
-coordinate s (Shrinking j) a = shrunk (s .setup) (s .standing .points) j a
-coordinate s (Probing p) a = probed (s .setup) (s .best .point) p a
-coordinate s (Ended cause) a = nan
+-- probe p, from 0, of a round at b: "for each axis, the clamp of b + d, then of b − d"
+unfoldable pub probed : Setup → List Float → ℕ → ℕ → Float
+probed t b p a = clamped t a (probeStep (axis t a) (getD b a nan) p a)
+
+-- coordinate a of the trial of each phase, by the standing points ps, the point x that a build goes around and the best point b;
+-- an ended search has none
+abbrev pub coordinate : Setup → List Float → List Float → List Float → Phase → ℕ → Float
+coordinate t ps x b (Building i) a = built t x i a
+coordinate t ps x b Reflecting a = reflected t ps a
+coordinate t ps x b (Expanding f) a = expanded t ps a
+coordinate t ps x b (Contracting side f) a = contracted t ps side a
+coordinate t ps x b (Shrinking j) a = shrunk t ps j a
+coordinate t ps x b (Probing p) a = probed t b p a
+coordinate t ps x b (Ended cause) a = nan
+
+-- coordinate a of the trial that the search s would ask in phase p
+abbrev pub asked : Search → Phase → ℕ → Float
+asked s p a = coordinate (s .setup) (s .standing .points) (s .center) (s .best .point) p a
 
 -- the trial: "the point that the rules ask"
 unfoldable pub trial : Search → List Float
-trial s = point (s .setup .n) (coordinate s (s .phase))
+trial s = point (s .setup .n) (asked s (s .phase))

@@ -11,7 +11,7 @@ use lib.Seq.{getD-take}
 use lib.Ieee.{Float, lt}
 use borrow.Author.Tests.{leb-true}
 use Rattle.rules.specs.Binary64.{_≤ᶠ_, _<ᶠ_}
-use Rattle.rules.specs.Trial.{noAxis, axis, clamped, reflected, expanded, contracted, shrunk, built, probed, coordinate, trial}
+use Rattle.rules.specs.Trial.{noAxis, axis, clamped, reflected, expanded, contracted, shrunk, built, probed, asked, trial}
 use Rattle.rules.specs.Opening.{check, inThreshold, axisChecks, axesChecks, ruleOf, zeroAxis, keep, fresh, openedBy, openVerdict, opening}
 use Rattle.rules.specs.Calls.{soundRule, isEnded}
 use Rattle.rules.specs.Claims.{Within}
@@ -140,7 +140,7 @@ clamped-within t h a l v =
 
 -- every coordinate of an unfinished phase is a clamped one
 coordinate-within : (s : Search) → Sane (s .setup) → (p : Phase) → isEnded p ≡ false → (a : ℕ) → a < s .setup .n
-    → ((axis (s .setup) a .lo ≤ᶠ coordinate s p a) ≡ true) × ((coordinate s p a ≤ᶠ axis (s .setup) a .hi) ≡ true)
+    → ((axis (s .setup) a .lo ≤ᶠ asked s p a) ≡ true) × ((asked s p a ≤ᶠ axis (s .setup) a .hi) ≡ true)
 unfolding built reflected expanded contracted shrunk probed
 coordinate-within s h (Building i) e a l = clamped-within (s .setup) h a l _
 coordinate-within s h Reflecting e a l = clamped-within (s .setup) h a l _
@@ -154,4 +154,4 @@ coordinate-within s h (Ended cause) e a l = absurd (true≢false e)
 -- an unfinished search asks within its limits
 pub trial-within : (s : Search) → Sane (s .setup) → isEnded (s .phase) ≡ false → Within (s .setup) (trial s)
 unfolding trial
-trial-within s h e a l = rw (getD-point (s .setup .n) (coordinate s (s .phase)) a l) (coordinate-within s h (s .phase) e a l)
+trial-within s h e a l = rw (getD-point (s .setup .n) (asked s (s .phase)) a l) (coordinate-within s h (s .phase) e a l)

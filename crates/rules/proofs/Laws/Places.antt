@@ -30,7 +30,7 @@ at-padded : (P : Vertex → Type 0) (vs : List Vertex) (k : ℕ) → P blank →
 at-padded P vs k b h v m = ⊎-elim (h v) (λ r. subst⁻¹ P (mem-replicate k r) b) (List·Memᴰ·append-cases vs m)
 
 -- so each point at the places has eight numbers
-whole-padded : (vs : List Vertex) (k : ℕ) → Whole vs → Whole (vs ++ replicate k blank)
+pub whole-padded : (vs : List Vertex) (k : ℕ) → Whole vs → Whole (vs ++ replicate k blank)
 whole-padded vs k = at-padded (λ (v : Vertex). length (v .point) ≡ 8) vs k refl
 
 -- past the vertices the places read blank, as does a list past its end
@@ -44,7 +44,7 @@ getD-padded (v ∷ vs) k (suc i) = getD-padded vs k i
 -- ---- the flat run
 
 -- eight numbers are passed over for each vertex
-drop-flat : (vs : List Vertex) (i : ℕ) → Whole vs → drop (8 * i) (flat vs) ≡ flat (drop i vs)
+pub drop-flat : (vs : List Vertex) (i : ℕ) → Whole vs → drop (8 * i) (flat vs) ≡ flat (drop i vs)
 unfolding flat
 drop-flat vs zero h = refl
 drop-flat [] (suc i) h = drop-nil (8 * suc i)
@@ -95,7 +95,7 @@ cost-pack vs i =
 -- ---- pack after unpack
 
 -- the points of two lists, one after the other
-flat-append : (vs ws : List Vertex) → flat (vs ++ ws) ≡ flat vs ++ flat ws
+pub flat-append : (vs ws : List Vertex) → flat (vs ++ ws) ≡ flat vs ++ flat ws
 unfolding flat
 flat-append [] ws = refl
 flat-append (v ∷ vs) ws = rw (flat-append vs ws, append-assoc)
@@ -109,7 +109,7 @@ flat-unpack (suc m) s =
     rw (e, take-add (8 * m) 8 (s .points), flat-append, flat-unpack m s, append-nil)
 
 -- the costs of m places are the first m costs
-costs-unpack : (m : ℕ) (s : Simplex) → m ≤ length (s .costs) → map costOf (unpack m s) ≡ take m (s .costs)
+pub costs-unpack : (m : ℕ) (s : Simplex) → m ≤ length (s .costs) → map costOf (unpack m s) ≡ take m (s .costs)
 unfolding unpack upTo
 costs-unpack zero s l = refl
 costs-unpack (suc m) s l = rw (map-append costOf, costs-unpack m s (omega arith), take-suc (s .costs) m 0 l)

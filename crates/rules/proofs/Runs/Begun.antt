@@ -6,9 +6,9 @@ use Prim.Native.Nat.{ℕ, zero, suc, _+_, _<_}
 use native.Mathlib.Omega.{arith}
 use lib.ListN.{length, getD}
 use lib.Dec.{eqb}
-use lib.Ieee.{nan}
+use Rattle.rules.specs.Binary64.{0ᶠ}
 use borrow.Author.Tests.{ne-eqb}
-use Rattle.rules.specs.Simplex.{point}
+use Rattle.rules.specs.Simplex.{firstOf}
 use Rattle.rules.specs.Accept.{build, reflection, expansion, contraction, shrink, run}
 use Rattle.rules.specs.Opening.{noCounts, fresh}
 use Rattle.rules.specs.Calls.{standingOf}
@@ -97,5 +97,5 @@ module _ (o : Search) (begun : Begun o) where
         (b .0, e, sym (b .2) ∙ getD-readingsOf o h (b .0) (e .told))
 
     -- the best's point has n coordinates and zeros after them
-    pub best-shape : 0 < length h → point (run o h .setup .n) (λ (a : ℕ). getD (run o h .best .point) a nan) ≡ run o h .best .point
+    pub best-shape : 0 < length h → firstOf (run o h .setup .n) 0ᶠ (run o h .best .point) ≡ run o h .best .point
     best-shape l = run-inv .noted .fine (run o h .best) (best-mem (readingsOf o h) (run o h .best) (run-inv .noted .least (omega (arith, run-readings)))) .shape

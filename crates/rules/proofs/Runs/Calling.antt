@@ -6,8 +6,8 @@ use mathlib.Core.Logic.{_↔_}
 use Prim.Native.Nat.{ℕ, _+_, _<_}
 use native.Mathlib.Omega.{arith}
 use lib.ListN.{length, getD}
-use lib.Ieee.{nan}
-use Rattle.rules.specs.Simplex.{point}
+use Rattle.rules.specs.Binary64.{0ᶠ}
+use Rattle.rules.specs.Simplex.{firstOf}
 use borrow.Author.Tests.{ne-eqb, not-true}
 use Rattle.rules.specs.Trial.{trial}
 use Rattle.rules.specs.Accept.{run}
@@ -100,7 +100,7 @@ module _ (o : Search) (begun : Begun o) (h : List ℕ) (t : Joined o h) where
   unfolding showing
   showing-best l =
       let b = run-best o begun h t l in
-      let shape : _≡_ {A = Vertex} (record { point = point (run o h .setup .n) (λ (a : ℕ). getD (run o h .best .point) a nan); cost = run o h .best .cost }) (run o h .best) =
+      let shape : _≡_ {A = Vertex} (record { point = firstOf (run o h .setup .n) 0ᶠ (run o h .best .point); cost = run o h .best .cost }) (run o h .best) =
       λ i. record { point = best-shape o begun h t l i; cost = run o h .best .cost } in
       rw (best-accepted l) (b .0, b .1, refl, shape ∙ b .2)
 

@@ -5,7 +5,7 @@ use mathlib.Core.List.{List}
 use Prim.Native.Nat.{ℕ, _+_, _≤_, _<_}
 use native.Mathlib.Omega.{arith}
 use Rattle.rules.specs.Simplex.{point}
-use Rattle.rules.specs.Trial.{trial, coordinate}
+use Rattle.rules.specs.Trial.{trial, asked}
 use Rattle.rules.specs.Accept.{Piece, bestAfter, noted, advanced, spentPhase, isSpent, budgeted, accept}
 use Rattle.rules.specs.Calls.{maxCost, isEnded}
 use Rattle.rules.specs.Tally.{finishes, isProbe}
@@ -28,7 +28,7 @@ use Rattle.rules.proofs.Steps.Probing.{probe-step}
 -- ---- every phase
 
 module _ (rs : List Vertex) (v : Vertex) (s : Search) (inv : Inv rs s) (after : NotedWith v rs s) where
-  advance : (p : Phase) → isEnded p ≡ false → v .point ≡ point (s .setup .n) (coordinate s p) → At p (s .setup) (s .standing) (inv .vs) (inv .gs) (s .readings) (s .counts) (s .best)
+  advance : (p : Phase) → isEnded p ≡ false → v .point ≡ point (s .setup .n) (asked s p) → At p (s .setup) (s .standing) (inv .vs) (inv .gs) (s .readings) (s .counts) (s .best)
       → Stepped (rs ▹ v) (finishes p s (v .cost)) (isProbe p) s (advanced p (s .best .cost) v (noted v s))
   unfolding advanced
   advance (Building i) e shape h = build-step rs v s inv after i h
@@ -102,7 +102,7 @@ budget-step rs ps probe s u h =
 fine-trial : (s : Search) (c : ℕ) → s .setup .n ≤ 8 → c ≤ maxCost → Fine (s .setup .n) (readingOf s c)
 unfolding trial
 fine-trial s c l h =
-    let f = coordinate s (s .phase) in
+    let f = asked s (s .phase) in
     record { shape = point-again (s .setup .n) f; eight = length-point (s .setup .n) f l; low = h }
 
 module _ (rs : List Vertex) (s : Search) (inv : Inv rs s) (room : Room s) (c : ℕ) (live : isEnded (s .phase) ≡ false) (low : c ≤ maxCost) where

@@ -3,8 +3,8 @@ use mathlib.Core.Path.{_≡_}
 use mathlib.Core.List.{List, [], _∷_, map, List·Memᴰ}
 use Prim.Native.Nat.{ℕ, _+_, _-_, _*_, _≤_, _<_}
 use lib.ListN.{length, getD, take}
-use lib.Ieee.{nan}
-use Rattle.rules.specs.Simplex.{point, blank, pack, costOf, Ordered}
+use Rattle.rules.specs.Binary64.{0ᶠ}
+use Rattle.rules.specs.Simplex.{point, firstOf, blank, pack, costOf, Ordered}
 use Rattle.rules.specs.Trial.{reflected}
 use Rattle.rules.specs.Calls.{maxCost}
 use Rattle.rules.specs.History.{EarliestLeast}
@@ -31,7 +31,7 @@ Leads vs b = take 1 vs ≡ b ∷ []
 
 -- a reading is a point of n coordinates, zero after them, with a cost
 pub record Fine (n : ℕ) (v : Vertex) : Type 0 where
-  pub shape : point n (λ (a : ℕ). getD (v .point) a nan) ≡ v .point
+  pub shape : firstOf n 0ᶠ (v .point) ≡ v .point
   pub eight : length (v .point) ≡ 8
   pub low : v .cost ≤ maxCost
 

@@ -1,0 +1,89 @@
+-- Laws on the checks of an opening, and on arrays that a loop overwrites from a place on. Assumes nothing.
+use mathlib.Core.Path.{_≡_, refl, sym}
+use mathlib.Core.Bool.{Bool, true, false}
+use mathlib.Core.List.{List, _++_, append-nil, append-assoc}
+use Prim.Native.Nat.{ℕ, zero, suc, _+_, _-_, _≤_, _<_}
+use native.Mathlib.Numerals.{add-one}
+use native.Mathlib.Omega.{arith}
+use lib.ListN.{length, getD, take, drop, set, replicate, length-append, length-replicate, take-append-drop, drop-of-length-le, replicate-append-replicate}
+use lib.Seq.{length-take-le, drop-cons, set-at}
+use Rattle.rules.specs.Simplex.{firstOf}
+use Rattle.rules.specs.Trial.{noAxis}
+use Rattle.rules.specs.Opening.{check, axisChecks, axesChecks, openVerdict, fresh}
+use Rattle.rules.specs.declared.Axis.{Axis}
+use Rattle.rules.specs.declared.Coefficients.{Coefficients}
+use Rattle.rules.specs.declared.RuleChoice.{RuleChoice}
+use Rattle.rules.specs.declared.Verdict.{Verdict}
+use Rattle.rules.specs.declared.Verdict.the-variants.{Accepted, Refused}
+use Rattle.rules.specs.declared.Refusal.{Refusal}
+use Rattle.rules.proofs.Laws.Openings.{opened-sane}
+
+-- ---- eight places, overwritten with z from place n on
+
+-- out is xs with z at the places from n up to i, which goes up to 8 or, if n is past 8, stays at n
+pub record Cleared {A : Type 0} (n : ℕ) (z : A) (xs : List A) (i : ℕ) (out : List A) : Type 0 where
+  pub from : n ≤ i
+  pub upTo8 : i - n ≤ 8 - n
+  pub value : out ≡ take n xs ++ replicate (i - n) z ++ drop i xs
+
+module _ {A : Type 0} (n : ℕ) (z : A) (xs : List A) where
+  -- none is overwritten yet
+  pub cleared-none : Cleared n z xs n xs
+  cleared-none =
+      let none : n - n ≡ 0 = omega arith in
+      record { from = omega arith; upTo8 = omega arith; value = rw (none, append-nil) (sym (take-append-drop n xs)) }
+
+  -- one more is
+  pub cleared-more : length xs ≡ 8 → (i : ℕ) → i < 8 → (out : List A) → Cleared n z xs i out → Cleared n z xs (i + 1) (set out i z)
+  cleared-more e i l out h =
+      let front : length (take n xs ++ replicate (i - n) z) ≡ i = simp (length-append, length-replicate, length-take-le n xs (omega arith)) (omega arith) in
+      let more : i + 1 - n ≡ (i - n) + 1 = omega arith in
+      record {
+        from = omega arith;
+        upTo8 = omega arith;
+        value = rw (h .value, drop-cons xs i z (omega arith), set-at _ _ _ z i front, more, ← replicate-append-replicate, add-one) (simp append-assoc);
+      }
+
+  -- all are
+  pub cleared-all : length xs ≡ 8 → (i : ℕ) → 8 ≤ i → (out : List A) → Cleared n z xs i out → out ≡ firstOf n z xs
+  cleared-all e i l out h =
+      let all : i - n ≡ 8 - n = omega arith in
+      rw (h .value, all, drop-of-length-le xs {i = i} (omega arith), append-nil)
+
+-- ---- the checks of the axes
+
+-- a verdict, and that of the checks after it
+abbrev pub andThen : Verdict → Verdict → Verdict
+andThen Accepted v = v
+andThen (Refused r) v = Refused r
+
+-- a check and those after it
+check-then : (b : Bool) (r : Refusal) (u v : Verdict) → andThen (check b r u) v ≡ check b r (andThen u v)
+check-then true r u v = refl
+check-then false r u v = refl
+
+-- the checks of an axis and those after it
+axis-then : (i : ℕ) (x : Axis) (u v : Verdict) → andThen (axisChecks i x u) v ≡ axisChecks i x (andThen u v)
+axis-then i x u v = simp check-then
+
+-- the checks of the axes and those after them
+axes-then : (k i : ℕ) (xs : List Axis) (u v : Verdict) → andThen (axesChecks k i xs u) v ≡ axesChecks k i xs (andThen u v)
+unfolding axesChecks
+axes-then zero i xs u v = refl
+axes-then (suc k) i xs u v = rw (axis-then, axes-then k (suc i) xs u v)
+
+-- the checks of the axes, which without more give the verdict u, and those after them
+pub axes-with : (k i : ℕ) (xs : List Axis) (u v : Verdict) → u ≡ axesChecks k i xs Accepted → axesChecks k i xs v ≡ andThen u v
+axes-with k i xs u v e = rw (e, axes-then)
+
+-- of n axes the i-th goes first, counted from 0, with the verdict u, and those after it follow
+pub axes-first : (n i : ℕ) (xs : List Axis) (u v : Verdict) → i < n → u ≡ axisChecks (i + 1) (getD xs i noAxis) Accepted → axesChecks (n - i) i xs v ≡ andThen u (axesChecks (n - (i + 1)) (i + 1) xs v)
+unfolding axesChecks
+axes-first n i xs u v l e =
+    let more : n - i ≡ suc (n - suc i) = omega arith in
+    rw (e, axis-then, more, add-one)
+
+-- an opening that is not refused has at most eight axes
+pub accepted-count : (n : ℕ) (axes : List Axis) (rule : RuleChoice) (c : Coefficients) (budget : ℕ) → openVerdict n axes rule c budget ≡ Accepted → n ≤ 8
+unfolding fresh
+accepted-count n axes rule c budget h = opened-sane n axes rule c budget h .atMost8

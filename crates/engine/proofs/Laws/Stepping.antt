@@ -1,0 +1,94 @@
+-- Laws on what one reading does: the best, the budget, the open readings, the end of a piece. Assumes nothing.
+use mathlib.Core.Path.{_≡_, refl, sym}
+use mathlib.Core.Bool.{true, false, true≢false}
+use mathlib.Core.Logic.{_≢_, _⊎_, ⊎-elim}
+use Prim.Native.Nat.{ℕ, zero, suc, _≤_, _<_}
+use native.Mathlib.Omega.{arith}
+use borrow.Author.Tests.{lt-ltb, le-ltb, eq-eqb, ne-eqb}
+use Rattle.rules.specs.Accept.{bestAfter, replaces, spentPhase, firstOpen, withPhase, noted, budgeted}
+use Rattle.rules.specs.Calls.{isEnded}
+use Rattle.rules.specs.declared.Vertex.{Vertex}
+use Rattle.rules.specs.declared.Search.{Search}
+use Rattle.rules.specs.declared.Phase.{Phase}
+use Rattle.rules.specs.declared.Phase.the-variants.{Building, Reflecting, Expanding, Contracting, Shrinking, Probing, Ended}
+use Rattle.rules.specs.declared.Cause.the-variants.{Budget}
+use Rattle.engine.specs.Ready.{Ready}
+
+-- ---- the best
+
+-- the first reading is the best
+pub best-first : (k : ℕ) (v b : Vertex) → k ≡ 0 → bestAfter k v b ≡ v
+best-first k v b e = rw e
+
+-- a lower one replaces the best
+pub best-lower : (k : ℕ) (v b : Vertex) → k ≢ 0 → v .cost < b .cost → bestAfter k v b ≡ v
+best-lower zero v b h l = absurd (h refl)
+best-lower (suc k) v b h l = rw (lt-ltb (v .cost) (b .cost) l)
+
+-- any other leaves it
+pub best-stays : (k : ℕ) (v b : Vertex) → k ≢ 0 → b .cost ≤ v .cost → bestAfter k v b ≡ b
+best-stays zero v b h l = absurd (h refl)
+best-stays (suc k) v b h l = rw (le-ltb (v .cost) (b .cost) l)
+
+-- ---- the budget
+
+-- a spent budget leaves an ended search
+spent-ended : (p : Phase) → isEnded p ≡ true → spentPhase true p ≡ p
+spent-ended (Building i) e = absurd (true≢false (sym e))
+spent-ended Reflecting e = absurd (true≢false (sym e))
+spent-ended (Expanding f) e = absurd (true≢false (sym e))
+spent-ended (Contracting side f) e = absurd (true≢false (sym e))
+spent-ended (Shrinking j) e = absurd (true≢false (sym e))
+spent-ended (Probing p) e = absurd (true≢false (sym e))
+spent-ended (Ended cause) e = refl
+
+-- and ends any other
+spent-live : (p : Phase) → isEnded p ≡ false → spentPhase true p ≡ Ended Budget
+spent-live (Building i) e = refl
+spent-live Reflecting e = refl
+spent-live (Expanding f) e = refl
+spent-live (Contracting side f) e = refl
+spent-live (Shrinking j) e = refl
+spent-live (Probing p) e = refl
+spent-live (Ended cause) e = absurd (true≢false e)
+
+module _ (s : Search) where
+  -- the reading that spends the budget leaves an ended search
+  pub budget-settled : s .readings ≡ s .setup .budget → isEnded (s .phase) ≡ true → s ≡ budgeted s
+  budget-settled e h = rw (eq-eqb (s .readings) (s .setup .budget) e, spent-ended (s .phase) h)
+
+  -- and ends any other with cause budget
+  pub budget-spent : s .readings ≡ s .setup .budget → isEnded (s .phase) ≡ false → withPhase (Ended Budget) s ≡ budgeted s
+  budget-spent e h = rw (eq-eqb (s .readings) (s .setup .budget) e, spent-live (s .phase) h)
+
+  -- with budget left the search goes on
+  pub budget-left : s .readings ≢ s .setup .budget → s ≡ budgeted s
+  budget-left h = rw (ne-eqb (s .readings) (s .setup .budget) h)
+
+-- ---- the open readings
+
+-- the very first reading is not open
+pub open-first : (b i : ℕ) → b ≡ 0 → i ≡ 0 → firstOpen b i ≡ 0
+open-first zero zero e h = refl
+open-first zero (suc i) e h = absurd (omega arith)
+open-first (suc b) i e h = absurd (omega arith)
+
+-- every other of a build is
+pub open-later : (b i : ℕ) → (b ≢ 0) ⊎ (i ≢ 0) → firstOpen b i ≡ 1
+open-later zero zero h = absurd (⊎-elim (λ k. k refl) (λ k. k refl) h)
+open-later zero (suc i) h = refl
+open-later (suc b) zero h = refl
+open-later (suc b) (suc i) h = refl
+
+-- at most one reading is added
+pub open-small : (b i : ℕ) → firstOpen b i ≤ 1
+open-small zero zero = omega arith
+open-small zero (suc i) = omega arith
+open-small (suc b) zero = omega arith
+open-small (suc b) (suc i) = omega arith
+
+-- ---- what a step may take for granted
+
+-- a noted reading leaves it
+pub ready-noted : (s : Search) (v : Vertex) → Ready s → Ready (noted v s)
+ready-noted s v h = record { low = h .low; high = h .high; rule = h .rule; few = h .few; standing = h .standing; gathered = h .gathered }

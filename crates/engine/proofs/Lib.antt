@@ -1,0 +1,2 @@
+-- Theorems that no single function owns.
+pub mod Laws

@@ -1,0 +1,49 @@
+use mathlib.Core.Bool.{true}
+use mathlib.Core.Path.{_≡_, sym, _∙_}
+use native.Mathlib.Omega.{arith}
+use borrow.Author.Needs.{needs}
+use Rattle.rules.specs.Calls.{sound, asking}
+use Rattle.rules.specs.Trial.{trial}
+use Rattle.engine.proofs.Laws.Sounding.{ask-sound, ready, fits, room}
+use Rattle.engine.proofs.ask.Statement.{statement}
+use Rattle.engine.proofs.ask.Tie as tie
+
+ask-verdict-requires : tie.Need-ask-verdict-requires
+ask-verdict-requires c κs = search needs
+
+enum-told : tie.Need-enum-told
+enum-told c = search needs
+
+trial-in-requires : tie.Need-trial-in-requires
+trial-in-requires c κs =
+    let s = c .before .before .before .args .search in
+    let h : sound s ≡ true = ask-sound s (sym (c .before .before .ask-verdict .ensures) ∙ c .enum-told .given .1) in
+    (ready s h .low, ready s h .high, fits s h)
+
+add-t8 : tie.Need-add-t8
+add-t8 c =
+    let s = c .before .before .before .before .before .args .search in
+    omega (arith, room s (ask-sound s (sym (c .before .before .before .before .ask-verdict .ensures) ∙ c .before .before .enum-told .given .1)))
+
+enum-known-verdict : tie.Need-enum-known-verdict
+enum-known-verdict c = search needs
+
+returns : tie.Need-returns
+unfolding asking trial
+returns c = rw (← c .before .before .before .before .ask-verdict .ensures, c .before .before .enum-told .given .1, c .before .trial-in .ensures)
+
+returns-2 : tie.Need-returns-2
+unfolding asking
+returns-2 c = rw (← c .before .before .before .ask-verdict .ensures, c .before .verdict .given .1)
+
+pub ask-spec : {M : Type 1} → statement M
+ask-spec =
+    tie.close
+    (tie.spec
+    ask-verdict-requires
+    enum-told
+    trial-in-requires
+    add-t8
+    enum-known-verdict
+    returns
+    returns-2)

@@ -1,0 +1,61 @@
+use mathlib.Core.Path.{_≡_, refl}
+use Prim.Native.Nat.{_-_, _≤_}
+use native.Mathlib.Numerals.{add-one}
+use native.Mathlib.Omega.{arith}
+use Rattle.rules.specs.Stop.{apart}
+use Rattle.engine.proofs.stop.distance.Statement.{statement}
+use Rattle.engine.proofs.stop.distance.Tie as tie
+
+abbrev Inv-loop : tie.InvT-loop
+Inv-loop x y from n sum₀ a₀ sum a = (n ≤ 8) × (a ≤ n) × (sum ≡ apart x y from a)
+
+abbrev μ-loop : tie.MeasureT-loop
+μ-loop x y from n sum₀ a₀ sum a = n - a
+
+loop-holds : tie.Need-loop-holds Inv-loop μ-loop
+unfolding apart
+loop-holds c = (omega arith, omega arith, refl)
+
+mul-d : tie.Need-mul-d Inv-loop μ-loop
+mul-d c = omega arith
+
+element-copy-out-d : tie.Need-element-copy-out-d Inv-loop μ-loop
+element-copy-out-d c = omega arith
+
+mul-d-2 : tie.Need-mul-d-2 Inv-loop μ-loop
+mul-d-2 c = omega arith
+
+element-copy-out-d-2 : tie.Need-element-copy-out-d-2 Inv-loop μ-loop
+element-copy-out-d-2 c = omega arith
+
+add-a : tie.Need-add-a Inv-loop μ-loop
+add-a c = omega arith
+
+loop-less : tie.Need-loop-less Inv-loop μ-loop
+loop-less c = omega arith
+
+loop-again : tie.Need-loop-again Inv-loop μ-loop
+unfolding apart
+loop-again c = (omega arith, omega arith, rw add-one (rw (c .before .before .before .loop .inv .2)))
+
+returns : tie.Need-returns Inv-loop μ-loop
+returns c =
+    let at = c .before in
+    let last : at .loop .a ≡ at .before .args .n = omega arith in
+    rw (at .loop .inv .2, last)
+
+pub distance-spec : {M : Type 1} → statement M
+distance-spec =
+    tie.close
+    (tie.spec
+    Inv-loop
+    μ-loop
+    loop-holds
+    mul-d
+    element-copy-out-d
+    mul-d-2
+    element-copy-out-d-2
+    add-a
+    loop-less
+    loop-again
+    returns)

@@ -1,0 +1,65 @@
+use mathlib.Core.List.{[]}
+use mathlib.Core.Path.{_≡_, refl, _∙_}
+use lib.ListN.{length}
+use borrow.Author.Tests.{eq-eqb, ne-eqb}
+use borrow.Author.Needs.{needs}
+use Rattle.rules.specs.Accept.{builtOn}
+use Rattle.rules.specs.Stop.{movement}
+use Rattle.engine.proofs.Laws.Stepping.{open-small}
+use Rattle.engine.proofs.Laws.Ending.{capped-with, finished-with}
+use Rattle.engine.proofs.transition.built_on.Statement.{statement}
+use Rattle.engine.proofs.transition.built_on.Tie as tie
+
+inserted-requires : tie.Need-inserted-requires
+inserted-requires c κs = search needs
+
+finish-requires : tie.Need-finish-requires
+finish-requires c κs =
+    let at = c .before .before .before .before .before in
+    let a = at .args in
+    (at .pre .0, capped-with (a .s .gathered) (c .before .before .inserted .result) (a .i) (a .v) (c .before .before .inserted .ensures) (at .pre .2) (at .pre .0 .gathered))
+
+first-open-requires : tie.Need-first-open-requires
+first-open-requires c κs = search needs
+
+opened-requires : tie.Need-opened-requires
+opened-requires c κs =
+    let at = c .before .before .before .before .before .before .before .before in
+    (at .pre .0 .few, rw (c .first-open .ensures) (open-small (at .args .s .counts .builds) (at .args .i)))
+
+add-t14 : tie.Need-add-t14
+add-t14 c = search needs
+
+changed-requires : tie.Need-changed-requires
+changed-requires c κs = search needs
+
+returns : tie.Need-returns
+unfolding builtOn movement
+returns c =
+    let at = c .before .before .before .before .before .before in
+    let a = at .args in
+    let s = a .s in
+    let w = c .before .before .before .inserted in
+    let long : length (s .gathered .points) ≡ 72 = search (needs, at .good .0 .1 .1 .1 .1 .1 .0) in
+    let eight : length (a .v .point) ≡ 8 = search (needs, at .good .1 .1 .0) in
+    rw (eq-eqb (a .i) (s .setup .n) (c .before .if1 .taken))
+    (c .finish .ensures ∙ finished-with (s .gathered) (w .result) (a .i) (a .v) (w .ensures) _ s _ [] [] (c .before .if1 .taken) (at .pre .0 .high) long eight refl)
+
+returns-2 : tie.Need-returns-2
+unfolding builtOn
+returns-2 c =
+    let a = c .before .before .before .before .before .before .before .before .before .before .args in
+    rw (ne-eqb (a .i) (a .s .setup .n) (c .before .before .before .before .before .if1 .left), ← c .before .before .before .before .before .before .before .inserted .ensures, ← c .before .before .first-open .ensures, ← c .before .opened .ensures) (c .changed .ensures)
+
+pub built-on-spec : {M : Type 1} → statement M
+built-on-spec =
+    tie.close
+    (tie.spec
+    inserted-requires
+    finish-requires
+    first-open-requires
+    opened-requires
+    add-t14
+    changed-requires
+    returns
+    returns-2)

@@ -1,0 +1,62 @@
+use borrow.Author.Tests.{lt-ltb, le-ltb, eq-eqb, ne-eqb}
+use borrow.Author.Needs.{needs}
+use Rattle.rules.specs.Accept.{probedOn}
+use Rattle.rules.specs.Simplex.{upTo, unpack, insert}
+use Rattle.engine.proofs.transition.probed_on.Statement.{statement}
+use Rattle.engine.proofs.transition.probed_on.Tie as tie
+
+probed-once-requires : tie.Need-probed-once-requires
+probed-once-requires c κs = search needs
+
+blank-requires : tie.Need-blank-requires
+blank-requires c κs = search needs
+
+inserted-requires : tie.Need-inserted-requires
+inserted-requires c κs = search needs
+
+changed-requires : tie.Need-changed-requires
+changed-requires c κs = search needs
+
+add-if2 : tie.Need-add-if2
+add-if2 c = search needs
+
+mul-if2 : tie.Need-mul-if2
+mul-if2 c = search needs
+
+changed-requires-2 : tie.Need-changed-requires-2
+changed-requires-2 c κs = search needs
+
+add-t22 : tie.Need-add-t22
+add-t22 c = search needs
+
+changed-requires-3 : tie.Need-changed-requires-3
+changed-requires-3 c κs = search needs
+
+returns : tie.Need-returns
+unfolding probedOn unpack upTo insert
+returns c = rw (lt-ltb _ _ (c .before .before .before .before .if1 .taken), ← c .before .inserted .ensures, ← c .before .before .before .before .before .before .probed-once .ensures) (c .changed .ensures)
+
+returns-2 : tie.Need-returns-2
+unfolding probedOn
+returns-2 c = rw (le-ltb _ _ (c .before .before .before .if1 .left), eq-eqb _ _ (c .before .if2 .taken), ← c .before .before .before .before .before .probed-once .ensures) (c .changed2 .ensures)
+
+returns-3 : tie.Need-returns-3
+unfolding probedOn
+returns-3 c = rw (le-ltb _ _ (c .before .before .before .if1 .left), ne-eqb _ _ (c .before .if2 .left), ← c .before .before .before .before .before .probed-once .ensures) (c .changed3 .ensures)
+
+pub probed-on-spec : {M : Type 1} → statement M
+probed-on-spec =
+    tie.close
+    (tie.spec
+    probed-once-requires
+    blank-requires
+    inserted-requires
+    changed-requires
+    add-if2
+    mul-if2
+    changed-requires-2
+    add-t22
+    changed-requires-3
+    returns
+    returns-2
+    returns-3)

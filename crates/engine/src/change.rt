@@ -1,0 +1,166 @@
+use super::place::blank;
+use super::stop::Piece;
+use super::stop::met;
+use rules::Counts;
+use rules::Phase;
+use rules::Search;
+use rules::Simplex;
+use rules::Vertex;
+ghost use mathlib.Core.Path.{_≡_};
+ghost use Prim.Native.Nat.{_≤_, _<_};
+ghost use Rattle.rules.specs.Accept.{noted, counted, opened, probedOnce, withPhase, waiting, testedPhase};
+ghost use Rattle.rules.specs.Calls.{isEnded};
+ghost use Rattle.engine.specs.Places.{Capped};
+ghost use Rattle.engine.specs.Ready.{Few, Ready};
+ghost use Rattle.engine.specs.Finish.{pieceOf, finishedBy, changedTo};
+
+// One reading more, with the best after it: replaced only by a lower one.
+pub(super) fn noted(s: Search, v: Vertex) -> Search
+    requires { ⌜ s .readings < 1000000 ⌝ }
+    ensures { λ r. ⌜ r ≡ noted v s ⌝ }
+{
+    let mut t = s;
+    let best = s.best;
+    t.readings = s.readings + 1;
+    if s.readings == 0 {
+        t.best = v;
+    } else if v.cost < best.cost {
+        t.best = v;
+    }
+    t
+}
+
+// The counts with a finished piece more, and nothing open.
+fn counted(piece: Piece, counts: Counts) -> Counts
+    requires { ⌜ Few counts ⌝ }
+    ensures { λ r. ⌜ r ≡ counted (pieceOf piece) counts ⌝ }
+{
+    let mut c = counts;
+    c.unfinished = 0;
+    match piece {
+        Piece::Build => c.builds = c.builds + 1,
+        Piece::Reflection => c.reflections = c.reflections + 1,
+        Piece::Expansion => c.expansions = c.expansions + 1,
+        Piece::Contraction => c.contractions = c.contractions + 1,
+        Piece::Shrink => c.shrinks = c.shrinks + 1,
+    }
+    c
+}
+
+// The counts with k readings more open.
+pub(super) fn opened(counts: Counts, k: u64) -> Counts
+    requires { ⌜ (Few counts) × (k ≤ 1) ⌝ }
+    ensures { λ r. ⌜ r ≡ opened k counts ⌝ }
+{
+    let mut c = counts;
+    c.unfinished = c.unfinished + k;
+    c
+}
+
+// The counts with a probe more.
+pub(super) fn probed_once(counts: Counts) -> Counts
+    requires { ⌜ Few counts ⌝ }
+    ensures { λ r. ⌜ r ≡ probedOnce counts ⌝ }
+{
+    let mut c = counts;
+    c.probes = c.probes + 1;
+    c
+}
+
+// The search with these parts changed.
+pub(super) fn changed(
+    s: Search,
+    phase: Phase,
+    gathered: Simplex,
+    center: [f64; 8],
+    counts: Counts,
+) -> Search
+    ensures { λ r. ⌜ r ≡ changedTo phase gathered center counts s ⌝ }
+{
+    let setup = s.setup;
+    let standing = s.standing;
+    let best = s.best;
+    Search {
+        setup,
+        phase,
+        standing,
+        gathered,
+        center,
+        readings: s.readings,
+        best,
+        counts,
+    }
+}
+
+// Whether the search has ended.
+pub(super) fn is_ended(phase: Phase) -> bool
+    ensures { λ r. ⌜ r ≡ isEnded phase ⌝ }
+{
+    match phase {
+        Phase::Building(_) => false,
+        Phase::Reflecting => false,
+        Phase::Expanding(_) => false,
+        Phase::Contracting(_, _) => false,
+        Phase::Shrinking(_) => false,
+        Phase::Probing(_) => false,
+        Phase::Ended(_) => true,
+    }
+}
+
+// The search in another phase.
+pub(super) fn with_phase(s: Search, phase: Phase) -> Search
+    ensures { λ r. ⌜ r ≡ withPhase phase s ⌝ }
+{
+    let gathered = s.gathered;
+    let center = s.center;
+    let counts = s.counts;
+    changed(s, phase, gathered, center, counts)
+}
+
+// The piece goes on in another phase, with one reading more open.
+pub(super) fn waiting(s: Search, phase: Phase) -> Search
+    requires { ⌜ Few (s .counts) ⌝ }
+    ensures { λ r. ⌜ r ≡ waiting phase 1 s ⌝ }
+{
+    let gathered = s.gathered;
+    let center = s.center;
+    let before = s.counts;
+    let counts = opened(before, 1);
+    changed(s, phase, gathered, center, counts)
+}
+
+// The phase after a piece: a probe round where the rule is met, else the next iteration.
+fn tested_phase(met: bool) -> Phase
+    ensures { λ r. ⌜ r ≡ testedPhase met ⌝ }
+{
+    if met {
+        Phase::Probing(0)
+    } else {
+        Phase::Reflecting
+    }
+}
+
+// The end of a piece: the vertices stand, the piece is counted, the rule is tested.
+pub(super) fn finish(s: Search, piece: Piece, movement: f64, standing: Simplex) -> Search
+    requires { ⌜ (Ready s) × Capped (standing .costs) ⌝ }
+    ensures { λ r. ⌜ r ≡ finishedBy piece movement standing s ⌝ }
+{
+    let setup = s.setup;
+    let rule = setup.rule;
+    let phase = tested_phase(met(rule, setup.n, piece, movement, standing));
+    let before = s.counts;
+    let counts = counted(piece, before);
+    let gathered = blank();
+    let center = s.center;
+    let best = s.best;
+    Search {
+        setup,
+        phase,
+        standing,
+        gathered,
+        center,
+        readings: s.readings,
+        best,
+        counts,
+    }
+}

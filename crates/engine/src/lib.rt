@@ -1,0 +1,192 @@
+// The calls of the engine. Each promise equates the whole answer with the rules' definition of that call, for
+// every argument: refused calls too, and searches that no opening made.
+use rules::Asked;
+use rules::Axis;
+use rules::Coefficients;
+use rules::Opened;
+use rules::Refusal;
+use rules::RuleChoice;
+use rules::Search;
+use rules::Shown;
+use rules::Told;
+use rules::Verdict;
+use rules::Vertex;
+
+mod change;
+mod float;
+mod insert;
+mod opening;
+mod place;
+mod point;
+mod sound;
+mod stop;
+mod transition;
+
+ghost use mathlib.Core.Path.{_≡_};
+ghost use Rattle.rules.specs.Binary64.{0ᶠ};
+ghost use Rattle.rules.specs.Simplex.{firstOf};
+ghost use Rattle.rules.specs.Opening.{opening, numberOf, axisOf};
+ghost use Rattle.rules.specs.Calls.{asking, telling, showing};
+
+// Opens a search: n axes, eight records of which those past n are not read, a stopping rule or none, the
+// coefficients and the budget. Refusals 1 to 7 come with a closed search.
+pub fn open_search(
+    n: usize,
+    axes: [Axis; 8],
+    rule: RuleChoice,
+    coefficients: Coefficients,
+    budget: u64,
+) -> Opened
+    ensures { λ r. ⌜ r ≡ opening n axes rule coefficients budget ⌝ }
+{
+    let verdict = opening::open_verdict(n, axes, rule, coefficients, budget);
+    match verdict {
+        Verdict::Accepted => {
+            let search = opening::fresh(n, axes, rule, coefficients, budget);
+            Opened {
+                verdict: Verdict::Accepted,
+                search,
+            }
+        }
+        Verdict::Refused(r) => {
+            let search = opening::closed();
+            Opened {
+                verdict: Verdict::Refused(r),
+                search,
+            }
+        }
+    }
+}
+
+// The trial to measure next, with its reading number. The search is returned as given.
+pub fn ask(search: Search) -> Asked
+    ensures { λ r. ⌜ r ≡ asking search ⌝ }
+{
+    let verdict = sound::ask_verdict(search);
+    match verdict {
+        Verdict::Accepted => {
+            let phase = search.phase;
+            let point = point::trial_in(search, phase);
+            Asked {
+                verdict: Verdict::Accepted,
+                number: search.readings + 1,
+                point,
+                search,
+            }
+        }
+        Verdict::Refused(r) => Asked {
+            verdict: Verdict::Refused(r),
+            number: 0,
+            point: [0.0f64; 8],
+            search,
+        },
+    }
+}
+
+// Takes the reading of that number: the trial's cost. A refused one returns the search as given.
+pub fn tell(search: Search, number: u64, cost: u64) -> Told
+    ensures { λ r. ⌜ r ≡ telling search number cost ⌝ }
+{
+    let verdict = sound::tell_verdict(search, number, cost);
+    match verdict {
+        Verdict::Accepted => {
+            let next = transition::accept(search, cost);
+            Told {
+                verdict: Verdict::Accepted,
+                search: next,
+            }
+        }
+        Verdict::Refused(r) => Told {
+            verdict: Verdict::Refused(r),
+            search,
+        },
+    }
+}
+
+// The earliest reading of least cost. The search is returned as given.
+pub fn best(search: Search) -> Shown
+    ensures { λ r. ⌜ r ≡ showing search ⌝ }
+{
+    let verdict = sound::best_verdict(search);
+    match verdict {
+        Verdict::Accepted => {
+            let setup = search.setup;
+            let known = search.best;
+            let known_point = known.point;
+            let point = shown(setup.n, known_point);
+            let reading = Vertex {
+                point,
+                cost: known.cost,
+            };
+            Shown {
+                verdict: Verdict::Accepted,
+                reading,
+                search,
+            }
+        }
+        Verdict::Refused(r) => {
+            let reading = Vertex {
+                point: [0.0f64; 8],
+                cost: 0,
+            };
+            Shown {
+                verdict: Verdict::Refused(r),
+                reading,
+                search,
+            }
+        }
+    }
+}
+
+// The first n coordinates of a point, zero after them.
+fn shown(n: usize, point: [f64; 8]) -> [f64; 8]
+    ensures { λ r. ⌜ r ≡ firstOf n 0ᶠ point ⌝ }
+{
+    let mut out = point;
+    let mut a = n;
+    while a < 8 {
+        out[a] = 0.0;
+        a += 1;
+    }
+    out
+}
+
+// The refusal's number in the table of document 01.
+pub fn refusal_number(refusal: Refusal) -> u64
+    ensures { λ r. ⌜ r ≡ numberOf refusal ⌝ }
+{
+    match refusal {
+        Refusal::AxisCount => 1,
+        Refusal::OutOfRange(_) => 2,
+        Refusal::BadLimits(_) => 3,
+        Refusal::BadStep(_) => 4,
+        Refusal::BadCoefficient => 5,
+        Refusal::BadThreshold => 6,
+        Refusal::BadBudget => 7,
+        Refusal::SearchEnded => 8,
+        Refusal::CostTooHigh => 9,
+        Refusal::WrongNumber => 10,
+        Refusal::NoReading => 11,
+        Refusal::Damaged => 12,
+    }
+}
+
+// The axis that comes with refusals 2 to 4, counted from 1; 0 with any other.
+pub fn refusal_axis(refusal: Refusal) -> usize
+    ensures { λ r. ⌜ r ≡ axisOf refusal ⌝ }
+{
+    match refusal {
+        Refusal::AxisCount => 0,
+        Refusal::OutOfRange(axis) => axis,
+        Refusal::BadLimits(axis) => axis,
+        Refusal::BadStep(axis) => axis,
+        Refusal::BadCoefficient => 0,
+        Refusal::BadThreshold => 0,
+        Refusal::BadBudget => 0,
+        Refusal::SearchEnded => 0,
+        Refusal::CostTooHigh => 0,
+        Refusal::WrongNumber => 0,
+        Refusal::NoReading => 0,
+        Refusal::Damaged => 0,
+    }
+}
