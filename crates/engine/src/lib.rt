@@ -23,8 +23,6 @@ mod stop;
 mod transition;
 
 ghost use mathlib.Core.Path.{_≡_};
-ghost use Rattle.rules.specs.Binary64.{0ᶠ};
-ghost use Rattle.rules.specs.Simplex.{firstOf};
 ghost use Rattle.rules.specs.Opening.{opening, numberOf, axisOf};
 ghost use Rattle.rules.specs.Calls.{asking, telling, showing};
 
@@ -113,7 +111,7 @@ pub fn best(search: Search) -> Shown
             let setup = search.setup;
             let known = search.best;
             let known_point = known.point;
-            let point = shown(setup.n, known_point);
+            let point = point::shown(setup.n, known_point);
             let reading = Vertex {
                 point,
                 cost: known.cost,
@@ -136,19 +134,6 @@ pub fn best(search: Search) -> Shown
             }
         }
     }
-}
-
-// The first n coordinates of a point, zero after them.
-fn shown(n: usize, point: [f64; 8]) -> [f64; 8]
-    ensures { λ r. ⌜ r ≡ firstOf n 0ᶠ point ⌝ }
-{
-    let mut out = point;
-    let mut a = n;
-    while a < 8 {
-        out[a] = 0.0;
-        a += 1;
-    }
-    out
 }
 
 // The refusal's number in the table of document 01.

@@ -9,8 +9,8 @@ use rules::Side;
 ghost use mathlib.Core.Path.{_≡_};
 ghost use mathlib.Core.Bool.{cond};
 ghost use Prim.Native.Nat.{_≤_, _<_};
-ghost use Rattle.rules.specs.Binary64.{clamp};
-ghost use Rattle.rules.specs.Simplex.{point};
+ghost use Rattle.rules.specs.Binary64.{0ᶠ, clamp};
+ghost use Rattle.rules.specs.Simplex.{point, firstOf};
 ghost use Rattle.rules.specs.Trial.{stepped, probeStep, centroid, reflected, coordinate, asked};
 ghost use Rattle.engine.specs.Ready.{Fits};
 
@@ -124,6 +124,19 @@ pub(super) fn trial_in(search: Search, phase: Phase) -> [f64; 8]
     let mut a = 0;
     while a < n {
         out[a] = coordinate(setup, &points, &center, &best, phase, a);
+        a += 1;
+    }
+    out
+}
+
+// The first n coordinates of a point, zero after them.
+pub(super) fn shown(n: usize, point: [f64; 8]) -> [f64; 8]
+    ensures { λ r. ⌜ r ≡ firstOf n 0ᶠ point ⌝ }
+{
+    let mut out = point;
+    let mut a = n;
+    while a < 8 {
+        out[a] = 0.0;
         a += 1;
     }
     out

@@ -1,13 +1,11 @@
--- Laws on the checks of an opening, and on arrays that a loop overwrites from a place on. Assumes nothing.
-use mathlib.Core.Path.{_≡_, refl, sym}
+-- Laws on the checks of an opening. Assumes nothing.
+use mathlib.Core.Path.{_≡_, refl}
 use mathlib.Core.Bool.{Bool, true, false}
-use mathlib.Core.List.{List, _++_, append-nil, append-assoc}
+use mathlib.Core.List.{List}
 use Prim.Native.Nat.{ℕ, zero, suc, _+_, _-_, _≤_, _<_}
 use native.Mathlib.Numerals.{add-one}
 use native.Mathlib.Omega.{arith}
-use lib.ListN.{length, getD, take, drop, set, replicate, length-append, length-replicate, take-append-drop, drop-of-length-le, replicate-append-replicate}
-use lib.Seq.{length-take-le, drop-cons, set-at}
-use Rattle.rules.specs.Simplex.{firstOf}
+use lib.ListN.{getD}
 use Rattle.rules.specs.Trial.{noAxis}
 use Rattle.rules.specs.Opening.{check, axisChecks, axesChecks, openVerdict, fresh}
 use Rattle.rules.specs.declared.Axis.{Axis}
@@ -17,38 +15,6 @@ use Rattle.rules.specs.declared.Verdict.{Verdict}
 use Rattle.rules.specs.declared.Verdict.the-variants.{Accepted, Refused}
 use Rattle.rules.specs.declared.Refusal.{Refusal}
 use Rattle.rules.proofs.Laws.Openings.{opened-sane}
-
--- ---- eight places, overwritten with z from place n on
-
--- out is xs with z at the places from n up to i, which goes up to 8 or, if n is past 8, stays at n
-pub record Cleared {A : Type 0} (n : ℕ) (z : A) (xs : List A) (i : ℕ) (out : List A) : Type 0 where
-  pub from : n ≤ i
-  pub upTo8 : i - n ≤ 8 - n
-  pub value : out ≡ take n xs ++ replicate (i - n) z ++ drop i xs
-
-module _ {A : Type 0} (n : ℕ) (z : A) (xs : List A) where
-  -- none is overwritten yet
-  pub cleared-none : Cleared n z xs n xs
-  cleared-none =
-      let none : n - n ≡ 0 = omega arith in
-      record { from = omega arith; upTo8 = omega arith; value = rw (none, append-nil) (sym (take-append-drop n xs)) }
-
-  -- one more is
-  pub cleared-more : length xs ≡ 8 → (i : ℕ) → i < 8 → (out : List A) → Cleared n z xs i out → Cleared n z xs (i + 1) (set out i z)
-  cleared-more e i l out h =
-      let front : length (take n xs ++ replicate (i - n) z) ≡ i = simp (length-append, length-replicate, length-take-le n xs (omega arith)) (omega arith) in
-      let more : i + 1 - n ≡ (i - n) + 1 = omega arith in
-      record {
-        from = omega arith;
-        upTo8 = omega arith;
-        value = rw (h .value, drop-cons xs i z (omega arith), set-at _ _ _ z i front, more, ← replicate-append-replicate, add-one) (simp append-assoc);
-      }
-
-  -- all are
-  pub cleared-all : length xs ≡ 8 → (i : ℕ) → 8 ≤ i → (out : List A) → Cleared n z xs i out → out ≡ firstOf n z xs
-  cleared-all e i l out h =
-      let all : i - n ≡ 8 - n = omega arith in
-      rw (h .value, all, drop-of-length-le xs {i = i} (omega arith), append-nil)
 
 -- ---- the checks of the axes
 

@@ -2,9 +2,9 @@ use native.Mathlib.Omega.{arith}
 use borrow.Author.Needs.{needs}
 use Prim.Native.Nat.{_-_}
 use Rattle.rules.specs.Binary64.{0ᶠ}
-use Rattle.engine.proofs.Laws.Opening.{Cleared, cleared-none, cleared-more, cleared-all}
-use Rattle.engine.proofs.shown.Statement.{statement}
-use Rattle.engine.proofs.shown.Tie as tie
+use Rattle.engine.proofs.Laws.Filling.{Cleared, cleared-none, cleared-more, cleared-all}
+use Rattle.engine.proofs.point.shown.Statement.{statement}
+use Rattle.engine.proofs.point.shown.Tie as tie
 
 abbrev Inv-loop : tie.InvT-loop
 Inv-loop n out₀ a₀ out a = Cleared n 0ᶠ out₀ a out
