@@ -35,30 +35,21 @@ metBy (Moved e) n Contraction t vs = t <ᶠ e ⊗ float n
 metBy (Moved e) n Shrink t vs = t <ᶠ e ⊗ float n
 metBy (Size e) n p t vs = sizeMet n e vs
 
--- the piece ended: the vertices of w stand, the piece is counted, the rule is tested
-abbrev pub finishedBy : own.Piece → Float → Simplex → Search → Search
-finishedBy p t w s =
-    record {
-      setup = s .setup;
-      phase = testedPhase (metBy (s .setup .rule) (s .setup .n) p t (unpack (s .setup .n + 1) w));
-      standing = w;
-      gathered = pack [];
-      center = s .center;
-      readings = s .readings;
-      best = s .best;
-      counts = counted (pieceOf p) (s .counts);
-    }
-
--- a search with another phase, other gathered vertices, another center and other counts
-abbrev pub changedTo : Phase → Simplex → List Float → Counts → Search → Search
-changedTo p w x c s =
+-- a search with another phase, other standing and gathered vertices, another center and other counts
+abbrev pub changedTo : Phase → Simplex → Simplex → List Float → Counts → Search → Search
+changedTo p w g x c s =
     record {
       setup = s .setup;
       phase = p;
-      standing = s .standing;
-      gathered = w;
+      standing = w;
+      gathered = g;
       center = x;
       readings = s .readings;
       best = s .best;
       counts = c;
     }
+
+-- the piece ended: the vertices of w stand, the piece is counted, the rule is tested
+abbrev pub finishedBy : own.Piece → Float → Simplex → Search → Search
+finishedBy p t w s =
+    changedTo (testedPhase (metBy (s .setup .rule) (s .setup .n) p t (unpack (s .setup .n + 1) w))) w (pack []) (s .center) (counted (pieceOf p) (s .counts)) s

@@ -67,18 +67,18 @@ pub(super) fn probed_once(counts: Counts) -> Counts
     c
 }
 
-// The search with these parts changed.
+// The search with these parts changed. Every step of a reading ends here.
 pub(super) fn changed(
     s: Search,
     phase: Phase,
+    standing: Simplex,
     gathered: Simplex,
     center: [f64; 8],
     counts: Counts,
 ) -> Search
-    ensures { λ r. ⌜ r ≡ changedTo phase gathered center counts s ⌝ }
+    ensures { λ r. ⌜ r ≡ changedTo phase standing gathered center counts s ⌝ }
 {
     let setup = s.setup;
-    let standing = s.standing;
     let best = s.best;
     Search {
         setup,
@@ -111,10 +111,11 @@ pub(super) fn is_ended(phase: Phase) -> bool
 pub(super) fn with_phase(s: Search, phase: Phase) -> Search
     ensures { λ r. ⌜ r ≡ withPhase phase s ⌝ }
 {
+    let standing = s.standing;
     let gathered = s.gathered;
     let center = s.center;
     let counts = s.counts;
-    changed(s, phase, gathered, center, counts)
+    changed(s, phase, standing, gathered, center, counts)
 }
 
 // The piece goes on in another phase, with one reading more open.
@@ -122,11 +123,12 @@ pub(super) fn waiting(s: Search, phase: Phase) -> Search
     requires { ⌜ Few (s .counts) ⌝ }
     ensures { λ r. ⌜ r ≡ waiting phase 1 s ⌝ }
 {
+    let standing = s.standing;
     let gathered = s.gathered;
     let center = s.center;
     let before = s.counts;
     let counts = opened(before, 1);
-    changed(s, phase, gathered, center, counts)
+    changed(s, phase, standing, gathered, center, counts)
 }
 
 // The phase after a piece: a probe round where the rule is met, else the next iteration.
@@ -152,15 +154,5 @@ pub(super) fn finish(s: Search, piece: Piece, movement: f64, standing: Simplex) 
     let counts = counted(piece, before);
     let gathered = blank();
     let center = s.center;
-    let best = s.best;
-    Search {
-        setup,
-        phase,
-        standing,
-        gathered,
-        center,
-        readings: s.readings,
-        best,
-        counts,
-    }
+    changed(s, phase, standing, gathered, center, counts)
 }

@@ -12,6 +12,7 @@ use rules::Told;
 use rules::Verdict;
 use rules::Vertex;
 
+mod answer;
 mod change;
 mod float;
 mod insert;
@@ -72,12 +73,7 @@ pub fn ask(search: Search) -> Asked
                 search,
             }
         }
-        Verdict::Refused(r) => Asked {
-            verdict: Verdict::Refused(r),
-            number: 0,
-            point: [0.0f64; 8],
-            search,
-        },
+        Verdict::Refused(r) => answer::refused_ask(search, r),
     }
 }
 
@@ -94,10 +90,7 @@ pub fn tell(search: Search, number: u64, cost: u64) -> Told
                 search: next,
             }
         }
-        Verdict::Refused(r) => Told {
-            verdict: Verdict::Refused(r),
-            search,
-        },
+        Verdict::Refused(r) => answer::refused_tell(search, r),
     }
 }
 
@@ -122,17 +115,7 @@ pub fn best(search: Search) -> Shown
                 search,
             }
         }
-        Verdict::Refused(r) => {
-            let reading = Vertex {
-                point: [0.0f64; 8],
-                cost: 0,
-            };
-            Shown {
-                verdict: Verdict::Refused(r),
-                reading,
-                search,
-            }
-        }
+        Verdict::Refused(r) => answer::refused_best(search, r),
     }
 }
 

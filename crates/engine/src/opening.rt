@@ -67,11 +67,12 @@ fn axes_verdict(n: usize, axes: [Axis; 8]) -> Verdict
     requires { ⌜ n ≤ 8 ⌝ }
     ensures { λ r. ⌜ r ≡ axesChecks n 0 axes Accepted ⌝ }
 {
-    let mut i = 0;
-    while i < n {
+    let mut left = n;
+    while 0 < left {
+        let i = n - left;
         let verdict = axis_verdict(i + 1, axes[i]);
         match verdict {
-            Verdict::Accepted => i += 1,
+            Verdict::Accepted => left -= 1,
             Verdict::Refused(r) => return Verdict::Refused(r),
         }
     }

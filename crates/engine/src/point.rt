@@ -11,7 +11,7 @@ ghost use mathlib.Core.Bool.{cond};
 ghost use Prim.Native.Nat.{_≤_, _<_};
 ghost use Rattle.rules.specs.Binary64.{0ᶠ, clamp};
 ghost use Rattle.rules.specs.Simplex.{point, firstOf};
-ghost use Rattle.rules.specs.Trial.{stepped, probeStep, centroid, reflected, coordinate, asked};
+ghost use Rattle.rules.specs.Trial.{move, stepped, probeStep, centroid, coordinate, asked};
 ghost use Rattle.engine.specs.Ready.{Fits};
 
 // c on axis a: the sum of places 1 to n in place order, divided by n.
@@ -60,16 +60,13 @@ fn probed(x: Axis, v: f64, p: usize, a: usize) -> f64
     }
 }
 
-// r on axis a.
-fn reflected(setup: Setup, points: &[f64; 72], a: usize) -> f64
-    requires { ⌜ (1 ≤ setup .n) × (setup .n ≤ 8) × (a < 8) ⌝ }
-    ensures { λ r. ⌜ r ≡ reflected setup (now (points .entry)) a ⌝ }
+// k times as far from c as r, which is the clamped point, towards it.
+fn beyond(x: Axis, c: f64, w: f64, alpha: f64, k: f64) -> f64
+    ensures { λ r. ⌜ r ≡ clamp (x .lo) (x .hi) (move c k (clamp (x .lo) (x .hi) (move c alpha c w)) c) ⌝ }
 {
-    let n = setup.n;
-    let axes = setup.axes;
-    let k = setup.coefficients;
-    let c = centroid(points, n, a);
-    moved(axes[a], c, k.alpha, c, points[8 * n + a])
+    let u = c + alpha * (c - w);
+    let r = clamp(x.lo, x.hi, u);
+    moved(x, c, k, r, c)
 }
 
 // Coordinate a of the trial of each phase. An ended search has none.
@@ -90,15 +87,18 @@ fn coordinate(
     let k = setup.coefficients;
     match phase {
         Phase::Building(i) => built(x, center[a], i == a + 1),
-        Phase::Reflecting => reflected(setup, points, a),
+        Phase::Reflecting => {
+            let c = centroid(points, n, a);
+            moved(x, c, k.alpha, c, points[8 * n + a])
+        }
         Phase::Expanding(_) => {
             let c = centroid(points, n, a);
-            moved(x, c, k.chi, reflected(setup, points, a), c)
+            beyond(x, c, points[8 * n + a], k.alpha, k.chi)
         }
         Phase::Contracting(side, _) => {
             let c = centroid(points, n, a);
             match side {
-                Side::Outside => moved(x, c, k.beta, reflected(setup, points, a), c),
+                Side::Outside => beyond(x, c, points[8 * n + a], k.alpha, k.beta),
                 Side::Inside => moved(x, c, k.beta, points[8 * n + a], c),
             }
         }

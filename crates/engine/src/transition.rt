@@ -63,10 +63,18 @@ fn built_on(s: Search, i: usize, v: Vertex) -> Search
     if i == setup.n {
         finish(s, Piece::Build, 0.0, gathered)
     } else {
+        let standing = s.standing;
         let center = s.center;
         let known = s.counts;
         let counts = opened(known, first_open(known.builds, i));
-        changed(s, Phase::Building(i + 1), gathered, center, counts)
+        changed(
+            s,
+            Phase::Building(i + 1),
+            standing,
+            gathered,
+            center,
+            counts,
+        )
     }
 }
 
@@ -79,12 +87,15 @@ fn reflected_on(s: Search, v: Vertex) -> Search
     let n = setup.n;
     let standing = s.standing;
     let costs = standing.costs;
+    let first = costs[0];
+    let last = costs[n - 1];
+    let worst = costs[n];
     let cost = v.cost;
-    if cost < costs[0] {
+    if cost < first {
         waiting(s, Phase::Expanding(cost))
-    } else if cost < costs[n - 1] {
+    } else if cost < last {
         taken(s, Piece::Reflection, v)
-    } else if cost < costs[n] {
+    } else if cost < worst {
         waiting(s, Phase::Contracting(Side::Outside, cost))
     } else {
         waiting(s, Phase::Contracting(Side::Inside, cost))
@@ -132,7 +143,7 @@ fn shrinking(s: Search) -> Search
     let center = s.center;
     let known = s.counts;
     let counts = opened(known, 1);
-    changed(s, Phase::Shrinking(1), gathered, center, counts)
+    changed(s, Phase::Shrinking(1), standing, gathered, center, counts)
 }
 
 // The outside or inside point told: it is taken, or a shrink begins.
@@ -179,10 +190,18 @@ fn shrunk_on(s: Search, j: usize, v: Vertex) -> Search
     if j == setup.n {
         finish(s, Piece::Shrink, shrink_movement(s), gathered)
     } else {
+        let standing = s.standing;
         let center = s.center;
         let known = s.counts;
         let counts = opened(known, 1);
-        changed(s, Phase::Shrinking(j + 1), gathered, center, counts)
+        changed(
+            s,
+            Phase::Shrinking(j + 1),
+            standing,
+            gathered,
+            center,
+            counts,
+        )
     }
 }
 
@@ -193,6 +212,7 @@ fn probed_on(s: Search, p: usize, b: u64, v: Vertex) -> Search
     ensures { λ r. ⌜ r ≡ probedOn p b v s ⌝ }
 {
     let setup = s.setup;
+    let standing = s.standing;
     let center = s.center;
     let gathered = s.gathered;
     let known = s.counts;
@@ -200,11 +220,18 @@ fn probed_on(s: Search, p: usize, b: u64, v: Vertex) -> Search
     if v.cost < b {
         let around = v.point;
         let first = inserted(blank(), 0, v);
-        changed(s, Phase::Building(1), first, around, counts)
+        changed(s, Phase::Building(1), standing, first, around, counts)
     } else if p + 1 == 2 * setup.n {
-        changed(s, Phase::Ended(Cause::Settled), gathered, center, counts)
+        changed(
+            s,
+            Phase::Ended(Cause::Settled),
+            standing,
+            gathered,
+            center,
+            counts,
+        )
     } else {
-        changed(s, Phase::Probing(p + 1), gathered, center, counts)
+        changed(s, Phase::Probing(p + 1), standing, gathered, center, counts)
     }
 }
 
@@ -250,5 +277,7 @@ pub(super) fn accept(s: Search, cost: u64) -> Search
     let best = s.best;
     let point = trial_in(s, phase);
     let v = Vertex { point, cost };
-    budgeted(advanced(noted(s, v), phase, best.cost, v))
+    let after = noted(s, v);
+    let next = advanced(after, phase, best.cost, v);
+    budgeted(next)
 }

@@ -42,12 +42,13 @@ axes-then (suc k) i xs u v = rw (axis-then, axes-then k (suc i) xs u v)
 pub axes-with : (k i : ℕ) (xs : List Axis) (u v : Verdict) → u ≡ axesChecks k i xs Accepted → axesChecks k i xs v ≡ andThen u v
 axes-with k i xs u v e = rw (e, axes-then)
 
--- of n axes the i-th goes first, counted from 0, with the verdict u, and those after it follow
-pub axes-first : (n i : ℕ) (xs : List Axis) (u v : Verdict) → i < n → u ≡ axisChecks (i + 1) (getD xs i noAxis) Accepted → axesChecks (n - i) i xs v ≡ andThen u (axesChecks (n - (i + 1)) (i + 1) xs v)
+-- of the k axes that are left the first, the i-th, counted from 0, has the verdict u, and the others follow
+pub axes-first : (k i : ℕ) (xs : List Axis) (u v : Verdict) → 0 < k → u ≡ axisChecks (i + 1) (getD xs i noAxis) Accepted → axesChecks k i xs v ≡ andThen u (axesChecks (k - 1) (i + 1) xs v)
 unfolding axesChecks
-axes-first n i xs u v l e =
-    let more : n - i ≡ suc (n - suc i) = omega arith in
-    rw (e, axis-then, more, add-one)
+axes-first zero i xs u v l e = absurd (omega arith)
+axes-first (suc k) i xs u v l e =
+    let less : suc k - 1 ≡ k = omega arith in
+    rw (e, axis-then, less, add-one)
 
 -- an opening that is not refused has at most eight axes
 pub accepted-count : (n : ℕ) (axes : List Axis) (rule : RuleChoice) (c : Coefficients) (budget : ℕ) → openVerdict n axes rule c budget ≡ Accepted → n ≤ 8

@@ -1,5 +1,5 @@
-use mathlib.Core.Bool.{true}
 use mathlib.Core.Path.{_≡_, sym, _∙_}
+use mathlib.Core.Bool.{true}
 use native.Mathlib.Omega.{arith}
 use borrow.Author.Needs.{needs}
 use Rattle.rules.specs.Calls.{sound, asking}
@@ -28,13 +28,16 @@ add-t8 c =
 enum-known-verdict : tie.Need-enum-known-verdict
 enum-known-verdict c = search needs
 
+refused-ask-requires : tie.Need-refused-ask-requires
+refused-ask-requires c κs = search needs
+
 returns : tie.Need-returns
 unfolding asking trial
 returns c = rw (← c .before .before .before .before .ask-verdict .ensures, c .before .before .enum-told .given .1, c .before .trial-in .ensures)
 
 returns-2 : tie.Need-returns-2
 unfolding asking
-returns-2 c = rw (← c .before .before .before .ask-verdict .ensures, c .before .verdict .given .1)
+returns-2 c = rw (← c .before .before .before .before .ask-verdict .ensures, c .before .before .verdict .given .1) (c .refused-ask .ensures)
 
 pub ask-spec : {M : Type 1} → statement M
 ask-spec =
@@ -45,5 +48,6 @@ ask-spec =
     trial-in-requires
     add-t8
     enum-known-verdict
+    refused-ask-requires
     returns
     returns-2)

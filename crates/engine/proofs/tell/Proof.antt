@@ -24,15 +24,25 @@ accept-requires c κs =
 enum-known-verdict : tie.Need-enum-known-verdict
 enum-known-verdict c = search needs
 
+refused-tell-requires : tie.Need-refused-tell-requires
+refused-tell-requires c κs = search needs
+
 returns : tie.Need-returns
 unfolding telling
 returns c = rw (← c .before .before .before .tell-verdict .ensures, c .before .enum-told .given .1, c .accept .ensures)
 
 returns-2 : tie.Need-returns-2
 unfolding telling
-returns-2 c = rw (← c .before .before .before .tell-verdict .ensures, c .before .verdict .given .1)
+returns-2 c = rw (← c .before .before .before .before .tell-verdict .ensures, c .before .before .verdict .given .1) (c .refused-tell .ensures)
 
 pub tell-spec : {M : Type 1} → statement M
 tell-spec =
     tie.close
-    (tie.spec tell-verdict-requires enum-told accept-requires enum-known-verdict returns returns-2)
+    (tie.spec
+    tell-verdict-requires
+    enum-told
+    accept-requires
+    enum-known-verdict
+    refused-tell-requires
+    returns
+    returns-2)

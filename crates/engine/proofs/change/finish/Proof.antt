@@ -14,9 +14,19 @@ counted-requires c κs = search needs
 blank-requires : tie.Need-blank-requires
 blank-requires c κs = search needs
 
+changed-requires : tie.Need-changed-requires
+changed-requires c κs = search needs
+
 returns : tie.Need-returns
-returns c = rw (c .before .before .before .before .before .tested-phase .ensures, c .before .before .before .before .before .before .met .ensures, c .before .before .before .counted .ensures, c .before .before .blank .ensures)
+returns c = rw (← c .before .before .before .before .before .before .met .ensures, ← c .before .before .before .before .before .tested-phase .ensures, ← c .before .before .before .counted .ensures, ← c .before .before .blank .ensures) (c .changed .ensures)
 
 pub finish-spec : {M : Type 1} → statement M
 finish-spec =
-    tie.close (tie.spec met-requires tested-phase-requires counted-requires blank-requires returns)
+    tie.close
+    (tie.spec
+    met-requires
+    tested-phase-requires
+    counted-requires
+    blank-requires
+    changed-requires
+    returns)

@@ -1,6 +1,6 @@
-use borrow.Author.Needs.{needs}
 use mathlib.Core.Path.{_≡_, _∙_}
 use mathlib.Core.Bool.{_&&_}
+use borrow.Author.Needs.{needs}
 use Rattle.rules.specs.Opening.{inRange, allInRange}
 use Rattle.engine.proofs.Laws.Joining.{and-found}
 use Rattle.engine.proofs.opening.all_in_range.Statement.{statement}

@@ -1,7 +1,7 @@
-use native.Mathlib.Omega.{arith}
-use borrow.Author.Needs.{needs}
 use mathlib.Core.Path.{_≡_, sym, _∙_}
 use Prim.Native.Nat.{_+_, _-_, _≤_}
+use native.Mathlib.Omega.{arith}
+use borrow.Author.Needs.{needs}
 use Rattle.rules.specs.Opening.{axesChecks}
 use Rattle.rules.specs.declared.Verdict.{Verdict}
 use Rattle.rules.specs.declared.Verdict.the-variants.{Accepted, Refused}
@@ -10,15 +10,18 @@ use Rattle.engine.proofs.opening.axes_verdict.Statement.{statement}
 use Rattle.engine.proofs.opening.axes_verdict.Tie as tie
 
 abbrev Inv-loop : tie.InvT-loop
-Inv-loop n axes i₀ i = (n ≤ 8) × (i ≤ n) × (axesChecks n 0 axes Accepted ≡ axesChecks (n - i) i axes Accepted)
+Inv-loop n axes left₀ left = (n ≤ 8) × (left ≤ n) × (axesChecks n 0 axes Accepted ≡ axesChecks left (n - left) axes Accepted)
 
 abbrev μ-loop : tie.MeasureT-loop
-μ-loop n axes i₀ i = n - i
+μ-loop n axes left₀ left = left
 
 loop-holds : tie.Need-loop-holds Inv-loop μ-loop
 loop-holds c =
-    let all : c .args .n - 0 ≡ c .args .n = omega arith in
-    (omega arith, omega arith, rw all)
+    let none : c .args .n - c .args .n ≡ 0 = omega arith in
+    (omega arith, omega arith, rw none)
+
+sub-i : tie.Need-sub-i Inv-loop μ-loop
+sub-i c = omega arith
 
 add-axis-verdict : tie.Need-add-axis-verdict Inv-loop μ-loop
 add-axis-verdict c = omega arith
@@ -35,24 +38,28 @@ axis-verdict-requires c κs = search needs
 enum-told : tie.Need-enum-told Inv-loop μ-loop
 enum-told c = search needs
 
-add-i : tie.Need-add-i Inv-loop μ-loop
-add-i c = omega arith
+sub-left : tie.Need-sub-left Inv-loop μ-loop
+sub-left c = omega arith
 
 loop-less : tie.Need-loop-less Inv-loop μ-loop
 loop-less c = omega arith
 
--- the verdict u of the i-th axis goes first
+-- the verdict u of the first of the axes left goes first
 first : (c : tie.After-axis-verdict Inv-loop μ-loop) (u : Verdict) → c .axis-verdict .result ≡ u
     → let at = c .before .before .before in
     let a = at .before .args in
-    axesChecks (a .n) 0 (a .t2) Accepted ≡ andThen u (axesChecks (a .n - (at .loop .i + 1)) (at .loop .i + 1) (a .t2) Accepted)
+    axesChecks (a .n) 0 (a .t2) Accepted ≡ andThen u (axesChecks (at .loop .left - 1) (a .n - at .loop .left + 1) (a .t2) Accepted)
 first c u e =
     let at = c .before .before .before in
     let a = at .before .args in
-    at .loop .inv .2 ∙ axes-first (a .n) (at .loop .i) (a .t2) u Accepted (omega arith) (sym e ∙ c .axis-verdict .ensures)
+    at .loop .inv .2 ∙ axes-first (at .loop .left) (a .n - at .loop .left) (a .t2) u Accepted (omega arith) (sym e ∙ c .axis-verdict .ensures)
 
 loop-again : tie.Need-loop-again Inv-loop μ-loop
-loop-again c = (omega arith, omega arith, first (c .before .before) Accepted (c .enum-told .given .1))
+loop-again c =
+    let left = c .before .before .before .before .before .loop .left in
+    let n = c .before .before .before .before .before .before .args .n in
+    let next : n - (left - 1) ≡ n - left + 1 = omega arith in
+    (omega arith, omega arith, rw next (first (c .before .before) Accepted (c .enum-told .given .1)))
 
 enum-known-verdict : tie.Need-enum-known-verdict Inv-loop μ-loop
 enum-known-verdict c = search needs
@@ -63,9 +70,8 @@ returns c = sym (first (c .before .before .before) (Refused _) (c .before .verdi
 returns-2 : tie.Need-returns-2 Inv-loop μ-loop
 unfolding axesChecks
 returns-2 c =
-    let at = c .before in
-    let none : at .before .args .n - at .loop .i ≡ 0 = omega arith in
-    rw (at .loop .inv .2, none)
+    let none : c .before .loop .left ≡ 0 = omega arith in
+    rw (c .before .loop .inv .2, none)
 
 pub axes-verdict-spec : {M : Type 1} → statement M
 axes-verdict-spec =
@@ -74,12 +80,13 @@ axes-verdict-spec =
     Inv-loop
     μ-loop
     loop-holds
+    sub-i
     add-axis-verdict
     mul-axis-verdict
     array-copy-out-axis-verdict
     axis-verdict-requires
     enum-told
-    add-i
+    sub-left
     loop-less
     loop-again
     enum-known-verdict

@@ -1,6 +1,6 @@
+use Prim.Native.Nat.{_-_}
 use native.Mathlib.Omega.{arith}
 use borrow.Author.Needs.{needs}
-use Prim.Native.Nat.{_-_}
 use Rattle.engine.proofs.Laws.Filling.{Cleared, cleared-none, cleared-more, cleared-all}
 use Rattle.engine.proofs.opening.keep.Statement.{statement}
 use Rattle.engine.proofs.opening.keep.Tie as tie

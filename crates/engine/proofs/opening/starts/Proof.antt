@@ -1,11 +1,11 @@
-use native.Mathlib.Omega.{arith}
-use borrow.Author.Needs.{needs}
 use mathlib.Core.Path.{_≡_, refl, _∙_}
 use mathlib.Core.List.{List, map, append-nil}
 use Prim.Native.Nat.{ℕ, _+_, _-_, _≤_}
+use native.Mathlib.Omega.{arith}
 use lib.ListN.{getD, length, length-map, List·getD-map}
 use lib.Seq.{take-all}
 use lib.Ieee.{Float, nan}
+use borrow.Author.Needs.{needs}
 use Rattle.rules.specs.Simplex.{upTo, point}
 use Rattle.rules.specs.Trial.{noAxis}
 use Rattle.rules.specs.Opening.{startOf}

@@ -1,6 +1,6 @@
+use Prim.Native.Nat.{_-_}
 use native.Mathlib.Omega.{arith}
 use borrow.Author.Needs.{needs}
-use Prim.Native.Nat.{_-_}
 use Rattle.rules.specs.Binary64.{0ᶠ}
 use Rattle.engine.proofs.Laws.Filling.{Cleared, cleared-none, cleared-more, cleared-all}
 use Rattle.engine.proofs.point.shown.Statement.{statement}

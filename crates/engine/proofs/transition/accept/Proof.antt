@@ -12,9 +12,7 @@ noted-requires : tie.Need-noted-requires
 noted-requires c κs = search needs
 
 advanced-requires : tie.Need-advanced-requires
-advanced-requires c κs =
-    let at = c .before .before .before in
-    rw (c .noted .ensures) (ready-noted (at .args .s) _ (at .pre .0), at .pre .2, at .pre .3)
+advanced-requires c κs = rw (c .noted .ensures) (ready-noted (c .before .before .before .args .s) _ (c .before .before .before .pre .0), c .before .before .before .pre .2, c .before .before .before .pre .3)
 
 budgeted-requires : tie.Need-budgeted-requires
 budgeted-requires c κs = search needs

@@ -23,12 +23,10 @@ first-open-requires : tie.Need-first-open-requires
 first-open-requires c κs = search needs
 
 opened-requires : tie.Need-opened-requires
-opened-requires c κs =
-    let at = c .before .before .before .before .before .before .before .before in
-    (at .pre .0 .few, rw (c .first-open .ensures) (open-small (at .args .s .counts .builds) (at .args .i)))
+opened-requires c κs = (c .before .before .before .before .before .before .before .before .before .pre .0 .few, rw (c .first-open .ensures) (open-small (c .before .before .before .before .before .before .before .before .before .args .s .counts .builds) (c .before .before .before .before .before .before .before .before .before .args .i)))
 
-add-t14 : tie.Need-add-t14
-add-t14 c = search needs
+add-t15 : tie.Need-add-t15
+add-t15 c = search needs
 
 changed-requires : tie.Need-changed-requires
 changed-requires c κs = search needs
@@ -48,8 +46,8 @@ returns c =
 returns-2 : tie.Need-returns-2
 unfolding builtOn
 returns-2 c =
-    let a = c .before .before .before .before .before .before .before .before .before .before .args in
-    rw (ne-eqb (a .i) (a .s .setup .n) (c .before .before .before .before .before .if1 .left), ← c .before .before .before .before .before .before .before .inserted .ensures, ← c .before .before .first-open .ensures, ← c .before .opened .ensures) (c .changed .ensures)
+    let a = c .before .before .before .before .before .before .before .before .before .before .before .args in
+    rw (ne-eqb (a .i) (a .s .setup .n) (c .before .before .before .before .before .before .if1 .left), ← c .before .before .before .before .before .before .before .before .inserted .ensures, ← c .before .before .first-open .ensures, ← c .before .opened .ensures) (c .changed .ensures)
 
 pub built-on-spec : {M : Type 1} → statement M
 built-on-spec =
@@ -59,7 +57,7 @@ built-on-spec =
     finish-requires
     first-open-requires
     opened-requires
-    add-t14
+    add-t15
     changed-requires
     returns
     returns-2)

@@ -1,4 +1,4 @@
-use borrow.Author.Tests.{lt-ltb, le-ltb, eq-eqb, ne-eqb}
+use borrow.Author.Tests.{eq-eqb, ne-eqb, lt-ltb, le-ltb}
 use borrow.Author.Needs.{needs}
 use Rattle.rules.specs.Accept.{probedOn}
 use Rattle.rules.specs.Simplex.{upTo, unpack, insert}
@@ -26,8 +26,8 @@ mul-if2 c = search needs
 changed-requires-2 : tie.Need-changed-requires-2
 changed-requires-2 c κs = search needs
 
-add-t22 : tie.Need-add-t22
-add-t22 c = search needs
+add-t23 : tie.Need-add-t23
+add-t23 c = search needs
 
 changed-requires-3 : tie.Need-changed-requires-3
 changed-requires-3 c κs = search needs
@@ -55,7 +55,7 @@ probed-on-spec =
     add-if2
     mul-if2
     changed-requires-2
-    add-t22
+    add-t23
     changed-requires-3
     returns
     returns-2

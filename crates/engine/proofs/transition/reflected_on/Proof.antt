@@ -4,29 +4,29 @@ use Rattle.rules.specs.Accept.{reflectedOn}
 use Rattle.engine.proofs.transition.reflected_on.Statement.{statement}
 use Rattle.engine.proofs.transition.reflected_on.Tie as tie
 
-array-read-if1 : tie.Need-array-read-if1
-array-read-if1 c = search needs
+array-read-first : tie.Need-array-read-first
+array-read-first c = search needs
+
+sub-last : tie.Need-sub-last
+sub-last c = search needs
+
+mul-last : tie.Need-mul-last
+mul-last c = search needs
+
+array-read-last : tie.Need-array-read-last
+array-read-last c = search needs
+
+mul-worst : tie.Need-mul-worst
+mul-worst c = search needs
+
+array-read-worst : tie.Need-array-read-worst
+array-read-worst c = search needs
 
 waiting-requires : tie.Need-waiting-requires
 waiting-requires c κs = search needs
 
-sub-if2 : tie.Need-sub-if2
-sub-if2 c = search needs
-
-mul-if2 : tie.Need-mul-if2
-mul-if2 c = search needs
-
-array-read-if2 : tie.Need-array-read-if2
-array-read-if2 c = search needs
-
 taken-requires : tie.Need-taken-requires
 taken-requires c κs = search needs
-
-mul-if3 : tie.Need-mul-if3
-mul-if3 c = search needs
-
-array-read-if3 : tie.Need-array-read-if3
-array-read-if3 c = search needs
 
 waiting-requires-2 : tie.Need-waiting-requires-2
 waiting-requires-2 c κs = search needs
@@ -54,14 +54,14 @@ pub reflected-on-spec : {M : Type 1} → statement M
 reflected-on-spec =
     tie.close
     (tie.spec
-    array-read-if1
+    array-read-first
+    sub-last
+    mul-last
+    array-read-last
+    mul-worst
+    array-read-worst
     waiting-requires
-    sub-if2
-    mul-if2
-    array-read-if2
     taken-requires
-    mul-if3
-    array-read-if3
     waiting-requires-2
     waiting-requires-3
     returns

@@ -20,14 +20,13 @@ finish-requires : tie.Need-finish-requires
 finish-requires c κs =
     let at = c .before .before .before .before .before .before in
     let a = at .args in
-    let w = c .before .before .before .inserted in
-    (at .pre .0, capped-with (a .s .gathered) (w .result) (a .j) (a .v) (w .ensures) (at .pre .2) (at .pre .0 .gathered))
+    (at .pre .0, capped-with (a .s .gathered) (c .before .before .before .inserted .result) (a .j) (a .v) (c .before .before .before .inserted .ensures) (at .pre .2) (at .pre .0 .gathered))
 
 opened-requires : tie.Need-opened-requires
 opened-requires c κs = search needs
 
-add-t14 : tie.Need-add-t14
-add-t14 c = search needs
+add-t15 : tie.Need-add-t15
+add-t15 c = search needs
 
 changed-requires : tie.Need-changed-requires
 changed-requires c κs = search needs
@@ -49,8 +48,8 @@ returns c =
 returns-2 : tie.Need-returns-2
 unfolding shrunkOn
 returns-2 c =
-    let a = c .before .before .before .before .before .before .before .before .before .args in
-    rw (ne-eqb (a .j) (a .s .setup .n) (c .before .before .before .before .if1 .left), ← c .before .before .before .before .before .before .inserted .ensures, ← c .before .opened .ensures) (c .changed .ensures)
+    let a = c .before .before .before .before .before .before .before .before .before .before .args in
+    rw (ne-eqb (a .j) (a .s .setup .n) (c .before .before .before .before .before .if1 .left), ← c .before .before .before .before .before .before .before .inserted .ensures, ← c .before .opened .ensures) (c .changed .ensures)
 
 pub shrunk-on-spec : {M : Type 1} → statement M
 shrunk-on-spec =
@@ -60,7 +59,7 @@ shrunk-on-spec =
     shrink-movement-requires
     finish-requires
     opened-requires
-    add-t14
+    add-t15
     changed-requires
     returns
     returns-2)
