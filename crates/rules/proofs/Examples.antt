@@ -7,19 +7,25 @@ use Rattle.rules.specs.Simplex.{upTo, flat, store, unpack, insert}
 use Rattle.rules.specs.Trial.{sumTo, centroid, reflected, expanded, contracted, shrunk, built, probed, trial}
 use Rattle.rules.specs.Stop.{total, spreadMet, apart, movement, movedMet, norm, allWithin, sizeMet}
 use Rattle.rules.specs.Accept.{met, finished, taken, builtOn, reflectedOn, expandedOn, contractedOn, shrunkOn, probedOn, advanced, accept, run}
-use Rattle.rules.specs.Opening.{axesChecks, openVerdict, fresh}
+use Rattle.rules.specs.Opening.{axesChecks, openVerdict, fresh, opening}
+use Rattle.rules.specs.Calls.{inOrder, allCosts, sound, askVerdict, tellVerdict, bestVerdict, asking, telling, showing}
 use Rattle.rules.specs.Examples.{given, paper}
 use Rattle.rules.specs.Cases.{casesGiven, casesStated, openingsGiven, openingsStated}
 
 -- to unfold this is to compute with floats
-floats : Unit {0}
+unfoldable pub floats : Unit {0}
 unfolding trailingZeros ofBits ofFields toBits odd neg add sub mul div sum round size span climb units le lt eq ofInt
 floats = tt
 
 -- to unfold this is to run the rules
-rules : Unit {0}
+unfoldable pub rules : Unit {0}
 unfolding floats fresh upTo flat store unpack insert sumTo centroid reflected expanded contracted shrunk built probed trial total spreadMet apart movement movedMet norm allWithin sizeMet met finished taken builtOn reflectedOn expandedOn contractedOn shrunkOn probedOn advanced accept run
 rules = tt
+
+-- to unfold this is to run the calls
+unfoldable pub calls : Unit {0}
+unfolding rules axesChecks openVerdict opening inOrder allCosts sound askVerdict tellVerdict bestVerdict asking telling showing
+calls = tt
 
 pub examples : given ≡ paper
 unfolding given paper rules

@@ -3,7 +3,6 @@ use mathlib.Core.Path.{_≡_, refl}
 use mathlib.Core.Bool.{Bool, true, false}
 use mathlib.Core.List.{List}
 use Prim.Native.Nat.{ℕ, zero, suc, _+_, _-_, _≤_, _<_}
-use native.Mathlib.Numerals.{add-one}
 use native.Mathlib.Omega.{arith}
 use lib.ListN.{getD}
 use Rattle.rules.specs.Trial.{noAxis}
@@ -42,13 +41,14 @@ axes-then (suc k) i xs u v = rw (axis-then, axes-then k (suc i) xs u v)
 pub axes-with : (k i : ℕ) (xs : List Axis) (u v : Verdict) → u ≡ axesChecks k i xs Accepted → axesChecks k i xs v ≡ andThen u v
 axes-with k i xs u v e = rw (e, axes-then)
 
--- of the k axes that are left the first, the i-th, counted from 0, has the verdict u, and the others follow
-pub axes-first : (k i : ℕ) (xs : List Axis) (u v : Verdict) → 0 < k → u ≡ axisChecks (i + 1) (getD xs i noAxis) Accepted → axesChecks k i xs v ≡ andThen u (axesChecks (k - 1) (i + 1) xs v)
+-- of n axes, of which k are left, the first of these has the verdict u, and the others follow
+pub axes-first : (n k : ℕ) (xs : List Axis) (u v : Verdict) → 0 < k → k ≤ n → u ≡ axisChecks (n - k + 1) (getD xs (n - k) noAxis) Accepted → axesChecks k (n - k) xs v ≡ andThen u (axesChecks (k - 1) (n - (k - 1)) xs v)
 unfolding axesChecks
-axes-first zero i xs u v l e = absurd (omega arith)
-axes-first (suc k) i xs u v l e =
+axes-first n zero xs u v l h e = absurd (omega arith)
+axes-first n (suc k) xs u v l h e =
     let less : suc k - 1 ≡ k = omega arith in
-    rw (e, axis-then, less, add-one)
+    let next : n - k ≡ suc (n - suc k) = omega arith in
+    rw (e, axis-then, less, next)
 
 -- an opening that is not refused has at most eight axes
 pub accepted-count : (n : ℕ) (axes : List Axis) (rule : RuleChoice) (c : Coefficients) (budget : ℕ) → openVerdict n axes rule c budget ≡ Accepted → n ≤ 8

@@ -1,11 +1,10 @@
 use mathlib.Core.Path.{_≡_, sym, _∙_}
-use Prim.Native.Nat.{_+_, _-_, _≤_}
+use Prim.Native.Nat.{_-_, _≤_}
 use native.Mathlib.Omega.{arith}
 use borrow.Author.Needs.{needs}
 use Rattle.rules.specs.Opening.{axesChecks}
-use Rattle.rules.specs.declared.Verdict.{Verdict}
 use Rattle.rules.specs.declared.Verdict.the-variants.{Accepted, Refused}
-use Rattle.engine.proofs.Laws.Opening.{andThen, axes-first}
+use Rattle.engine.proofs.Laws.Opening.{axes-first}
 use Rattle.engine.proofs.opening.axes_verdict.Statement.{statement}
 use Rattle.engine.proofs.opening.axes_verdict.Tie as tie
 
@@ -44,28 +43,14 @@ sub-left c = omega arith
 loop-less : tie.Need-loop-less Inv-loop μ-loop
 loop-less c = omega arith
 
--- the verdict u of the first of the axes left goes first
-first : (c : tie.After-axis-verdict Inv-loop μ-loop) (u : Verdict) → c .axis-verdict .result ≡ u
-    → let at = c .before .before .before in
-    let a = at .before .args in
-    axesChecks (a .n) 0 (a .t2) Accepted ≡ andThen u (axesChecks (at .loop .left - 1) (a .n - at .loop .left + 1) (a .t2) Accepted)
-first c u e =
-    let at = c .before .before .before in
-    let a = at .before .args in
-    at .loop .inv .2 ∙ axes-first (at .loop .left) (a .n - at .loop .left) (a .t2) u Accepted (omega arith) (sym e ∙ c .axis-verdict .ensures)
-
 loop-again : tie.Need-loop-again Inv-loop μ-loop
-loop-again c =
-    let left = c .before .before .before .before .before .loop .left in
-    let n = c .before .before .before .before .before .before .args .n in
-    let next : n - (left - 1) ≡ n - left + 1 = omega arith in
-    (omega arith, omega arith, rw next (first (c .before .before) Accepted (c .enum-told .given .1)))
+loop-again c = (omega arith, omega arith, c .before .before .before .before .before .loop .inv .2 ∙ axes-first (c .before .before .before .before .before .before .args .n) (c .before .before .before .before .before .loop .left) (c .before .before .before .before .before .before .args .t2) Accepted Accepted (omega arith) (omega arith) (sym (c .enum-told .given .1) ∙ c .before .before .axis-verdict .ensures))
 
 enum-known-verdict : tie.Need-enum-known-verdict Inv-loop μ-loop
 enum-known-verdict c = search needs
 
 returns : tie.Need-returns Inv-loop μ-loop
-returns c = sym (first (c .before .before .before) (Refused _) (c .before .verdict .given .1))
+returns c = sym (c .before .before .before .before .before .before .loop .inv .2 ∙ axes-first (c .before .before .before .before .before .before .before .args .n) (c .before .before .before .before .before .before .loop .left) (c .before .before .before .before .before .before .before .args .t2) (Refused _) Accepted (omega arith) (omega arith) (sym (c .before .verdict .given .1) ∙ c .before .before .before .axis-verdict .ensures))
 
 returns-2 : tie.Need-returns-2 Inv-loop μ-loop
 unfolding axesChecks

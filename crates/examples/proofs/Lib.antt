@@ -1,0 +1,4 @@
+-- Theorems that no single function owns.
+pub mod Numbers
+pub mod Playing
+pub mod Facts

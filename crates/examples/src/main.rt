@@ -1,0 +1,15 @@
+// P1 to P12 of document 01 and further cases, run through the engine's calls. What the contracts prove of an
+// answer is expected; every trial is printed by its bits.
+mod cases;
+mod hold;
+mod paper;
+mod play;
+mod refusals;
+mod rooms;
+mod show;
+
+fn main() {
+    paper::all();
+    cases::all();
+    refusals::all();
+}
