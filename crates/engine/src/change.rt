@@ -48,7 +48,7 @@ fn counted(piece: Piece, counts: Counts) -> Counts
 }
 
 // The counts with k readings more open.
-pub(super) fn opened(counts: Counts, k: u64) -> Counts
+fn opened(counts: Counts, k: u64) -> Counts
     requires { ⌜ (Few counts) × (k ≤ 1) ⌝ }
     ensures { λ r. ⌜ r ≡ opened k counts ⌝ }
 {
@@ -118,17 +118,25 @@ pub(super) fn with_phase(s: Search, phase: Phase) -> Search
     changed(s, phase, standing, gathered, center, counts)
 }
 
-// The piece goes on in another phase, with one reading more open.
+// The piece goes on in another phase with these vertices gathered, and k readings more open.
+pub(super) fn gathering(s: Search, phase: Phase, gathered: Simplex, k: u64) -> Search
+    requires { ⌜ (Few (s .counts)) × (k ≤ 1) ⌝ }
+    ensures { λ r. ⌜ r ≡ changedTo phase (s .standing) gathered (s .center) (opened k (s .counts)) s ⌝ }
+{
+    let standing = s.standing;
+    let center = s.center;
+    let before = s.counts;
+    let counts = opened(before, k);
+    changed(s, phase, standing, gathered, center, counts)
+}
+
+// The iteration goes on in another phase, with one reading more open.
 pub(super) fn waiting(s: Search, phase: Phase) -> Search
     requires { ⌜ Few (s .counts) ⌝ }
     ensures { λ r. ⌜ r ≡ waiting phase 1 s ⌝ }
 {
-    let standing = s.standing;
     let gathered = s.gathered;
-    let center = s.center;
-    let before = s.counts;
-    let counts = opened(before, 1);
-    changed(s, phase, standing, gathered, center, counts)
+    gathering(s, phase, gathered, 1)
 }
 
 // The phase after a piece: a probe round where the rule is met, else the next iteration.

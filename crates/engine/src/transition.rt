@@ -1,8 +1,8 @@
 use super::change::changed;
 use super::change::finish;
+use super::change::gathering;
 use super::change::is_ended;
 use super::change::noted;
-use super::change::opened;
 use super::change::probed_once;
 use super::change::waiting;
 use super::change::with_phase;
@@ -63,18 +63,9 @@ fn built_on(s: Search, i: usize, v: Vertex) -> Search
     if i == setup.n {
         finish(s, Piece::Build, 0.0, gathered)
     } else {
-        let standing = s.standing;
-        let center = s.center;
         let known = s.counts;
-        let counts = opened(known, first_open(known.builds, i));
-        changed(
-            s,
-            Phase::Building(i + 1),
-            standing,
-            gathered,
-            center,
-            counts,
-        )
+        let k = first_open(known.builds, i);
+        gathering(s, Phase::Building(i + 1), gathered, k)
     }
 }
 
@@ -140,10 +131,7 @@ fn shrinking(s: Search) -> Search
     let costs = standing.costs;
     let first = place_at(&points, &costs, 0);
     let gathered = inserted(blank(), 0, first);
-    let center = s.center;
-    let known = s.counts;
-    let counts = opened(known, 1);
-    changed(s, Phase::Shrinking(1), standing, gathered, center, counts)
+    gathering(s, Phase::Shrinking(1), gathered, 1)
 }
 
 // The outside or inside point told: it is taken, or a shrink begins.
@@ -190,18 +178,7 @@ fn shrunk_on(s: Search, j: usize, v: Vertex) -> Search
     if j == setup.n {
         finish(s, Piece::Shrink, shrink_movement(s), gathered)
     } else {
-        let standing = s.standing;
-        let center = s.center;
-        let known = s.counts;
-        let counts = opened(known, 1);
-        changed(
-            s,
-            Phase::Shrinking(j + 1),
-            standing,
-            gathered,
-            center,
-            counts,
-        )
+        gathering(s, Phase::Shrinking(j + 1), gathered, 1)
     }
 }
 

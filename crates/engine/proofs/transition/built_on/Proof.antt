@@ -22,14 +22,11 @@ finish-requires c κs =
 first-open-requires : tie.Need-first-open-requires
 first-open-requires c κs = search needs
 
-opened-requires : tie.Need-opened-requires
-opened-requires c κs = (c .before .before .before .before .before .before .before .before .before .pre .0 .few, rw (c .first-open .ensures) (open-small (c .before .before .before .before .before .before .before .before .before .args .s .counts .builds) (c .before .before .before .before .before .before .before .before .before .args .i)))
+add-t12 : tie.Need-add-t12
+add-t12 c = search needs
 
-add-t15 : tie.Need-add-t15
-add-t15 c = search needs
-
-changed-requires : tie.Need-changed-requires
-changed-requires c κs = search needs
+gathering-requires : tie.Need-gathering-requires
+gathering-requires c κs = (c .before .before .before .before .before .before .before .pre .0 .few, rw (c .first-open .ensures) (open-small (c .before .before .before .before .before .before .before .args .s .counts .builds) (c .before .before .before .before .before .before .before .args .i)))
 
 returns : tie.Need-returns
 unfolding builtOn movement
@@ -46,8 +43,8 @@ returns c =
 returns-2 : tie.Need-returns-2
 unfolding builtOn
 returns-2 c =
-    let a = c .before .before .before .before .before .before .before .before .before .before .before .args in
-    rw (ne-eqb (a .i) (a .s .setup .n) (c .before .before .before .before .before .before .if1 .left), ← c .before .before .before .before .before .before .before .before .inserted .ensures, ← c .before .before .first-open .ensures, ← c .before .opened .ensures) (c .changed .ensures)
+    let a = c .before .before .before .before .before .before .before .before .args in
+    rw (ne-eqb (a .i) (a .s .setup .n) (c .before .before .before .if1 .left), ← c .before .before .before .before .before .inserted .ensures, ← c .before .first-open .ensures) (c .gathering .ensures)
 
 pub built-on-spec : {M : Type 1} → statement M
 built-on-spec =
@@ -56,8 +53,7 @@ built-on-spec =
     inserted-requires
     finish-requires
     first-open-requires
-    opened-requires
-    add-t15
-    changed-requires
+    add-t12
+    gathering-requires
     returns
     returns-2)

@@ -12,23 +12,14 @@ blank-requires c κs = search needs
 inserted-requires : tie.Need-inserted-requires
 inserted-requires c κs = search needs
 
-opened-requires : tie.Need-opened-requires
-opened-requires c κs = search needs
-
-changed-requires : tie.Need-changed-requires
-changed-requires c κs = search needs
+gathering-requires : tie.Need-gathering-requires
+gathering-requires c κs = search needs
 
 returns : tie.Need-returns
 unfolding unpack upTo insert
-returns c = rw (← c .before .before .before .before .before .before .place-at .ensures, ← c .before .before .before .before .inserted .ensures, ← c .before .opened .ensures) (c .changed .ensures)
+returns c = rw (← c .before .before .before .place-at .ensures, ← c .before .inserted .ensures) (c .gathering .ensures)
 
 pub shrinking-spec : {M : Type 1} → statement M
 shrinking-spec =
     tie.close
-    (tie.spec
-    place-at-requires
-    blank-requires
-    inserted-requires
-    opened-requires
-    changed-requires
-    returns)
+    (tie.spec place-at-requires blank-requires inserted-requires gathering-requires returns)

@@ -22,14 +22,11 @@ finish-requires c κs =
     let a = at .args in
     (at .pre .0, capped-with (a .s .gathered) (c .before .before .before .inserted .result) (a .j) (a .v) (c .before .before .before .inserted .ensures) (at .pre .2) (at .pre .0 .gathered))
 
-opened-requires : tie.Need-opened-requires
-opened-requires c κs = search needs
+add-t11 : tie.Need-add-t11
+add-t11 c = search needs
 
-add-t15 : tie.Need-add-t15
-add-t15 c = search needs
-
-changed-requires : tie.Need-changed-requires
-changed-requires c κs = search needs
+gathering-requires : tie.Need-gathering-requires
+gathering-requires c κs = search needs
 
 returns : tie.Need-returns
 unfolding shrunkOn
@@ -48,8 +45,8 @@ returns c =
 returns-2 : tie.Need-returns-2
 unfolding shrunkOn
 returns-2 c =
-    let a = c .before .before .before .before .before .before .before .before .before .before .args in
-    rw (ne-eqb (a .j) (a .s .setup .n) (c .before .before .before .before .before .if1 .left), ← c .before .before .before .before .before .before .before .inserted .ensures, ← c .before .opened .ensures) (c .changed .ensures)
+    let a = c .before .before .before .before .before .before .args in
+    rw (ne-eqb (a .j) (a .s .setup .n) (c .before .if1 .left), ← c .before .before .before .inserted .ensures) (c .gathering .ensures)
 
 pub shrunk-on-spec : {M : Type 1} → statement M
 shrunk-on-spec =
@@ -58,8 +55,7 @@ shrunk-on-spec =
     inserted-requires
     shrink-movement-requires
     finish-requires
-    opened-requires
-    add-t15
-    changed-requires
+    add-t11
+    gathering-requires
     returns
     returns-2)

@@ -1,6 +1,6 @@
 use borrow.Author.Needs.{needs}
-use Rattle.engine.proofs.change.waiting.Statement.{statement}
-use Rattle.engine.proofs.change.waiting.Tie as tie
+use Rattle.engine.proofs.change.gathering.Statement.{statement}
+use Rattle.engine.proofs.change.gathering.Tie as tie
 
 opened-requires : tie.Need-opened-requires
 opened-requires c κs = search needs
@@ -11,5 +11,5 @@ changed-requires c κs = search needs
 returns : tie.Need-returns
 returns c = rw (← c .before .opened .ensures) (c .changed .ensures)
 
-pub waiting-spec : {M : Type 1} → statement M
-waiting-spec = tie.close (tie.spec opened-requires changed-requires returns)
+pub gathering-spec : {M : Type 1} → statement M
+gathering-spec = tie.close (tie.spec opened-requires changed-requires returns)
