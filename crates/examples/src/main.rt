@@ -2,6 +2,7 @@
 // answer is expected; every trial is printed by its bits.
 mod cases;
 mod hold;
+mod list;
 mod paper;
 mod play;
 mod refusals;
@@ -11,5 +12,6 @@ mod show;
 fn main() {
     paper::all();
     cases::all();
+    list::all();
     refusals::all();
 }

@@ -21,11 +21,12 @@ use Rattle.rules.specs.declared.Phase.the-variants.{Building, Reflecting, Expan
 use Rattle.rules.specs.declared.Verdict.{Verdict}
 use Rattle.rules.specs.declared.Verdict.the-variants.{Accepted}
 use Rattle.rules.specs.declared.Refusal.the-variants.{SearchEnded, Damaged}
-use Rattle.rules.proofs.Laws.Lists.{length-upTo, getD-upTo}
+use Rattle.rules.proofs.Laws.Lists.{getD-upTo}
 use Rattle.rules.proofs.Laws.Openings.{check-iff}
 use Rattle.rules.proofs.Laws.Order.{in-order, from-in-order, ordered-at}
 use Rattle.engine.specs.Places.{Capped}
 use Rattle.engine.specs.Ready.{Fits, Ready}
+use Rattle.engine.proofs.Laws.Placing.{length-unpack}
 
 -- ---- tests
 
@@ -61,11 +62,6 @@ stepwise (x ∷ []) h = (tt, tt)
 stepwise (x ∷ y ∷ ys) h = (h 0 (omega arith), stepwise (y ∷ ys) (λ k l. h (suc k) (suc-le-suc l)))
 
 module _ (s : Simplex) (m : ℕ) where
-  -- the first m places have m vertices
-  length-unpack : length (unpack m s) ≡ m
-  unfolding unpack
-  length-unpack = length-upTo (place s) m
-
   -- the cost of vertex k of them
   cost-at : (k : ℕ) → k < m → getD (unpack m s) k blank .cost ≡ getD (s .costs) k 0
   unfolding unpack
@@ -77,7 +73,7 @@ module _ (s : Simplex) (m : ℕ) where
       in-order (unpack m s)
       (stepwise (unpack m s)
       (λ k l.
-      let u : suc k < m = omega (arith, length-unpack) in
+      let u : suc k < m = omega (arith, length-unpack m s) in
       let e : suc k - 1 ≡ k = omega arith in
       rw (cost-at k (omega arith), cost-at (suc k) u) (rw e at (h (suc k) u))))
 
@@ -85,7 +81,7 @@ module _ (s : Simplex) (m : ℕ) where
   pub falling : (k : ℕ) → k < m → getD (s .costs) k 0 < getD (s .costs) (k - 1) 0 → inOrder (unpack m s) ≡ false
   falling k l h =
       refuted (inOrder (unpack m s))
-      (λ e. let o = ordered-at (unpack m s) (k - 1) k (from-in-order (unpack m s) e) (omega arith) (omega (arith, length-unpack)) in omega (arith, o, cost-at k l, cost-at (k - 1) (omega arith)))
+      (λ e. let o = ordered-at (unpack m s) (k - 1) k (from-in-order (unpack m s) e) (omega arith) (omega (arith, length-unpack m s)) in omega (arith, o, cost-at k l, cost-at (k - 1) (omega arith)))
 
 -- ---- what the test for a sound search tells
 
