@@ -1,3 +1,4 @@
+use mathlib.Core.Path.{refl}
 use borrow.Author.Needs.{needs}
 use Rattle.engine.proofs.change.counted.Statement.{statement}
 use Rattle.engine.proofs.change.counted.Tie as tie
@@ -33,19 +34,19 @@ add-c-5 : tie.Need-add-c-5
 add-c-5 c = search needs
 
 returns : tie.Need-returns
-returns c = rw (c .before .enum-told .given .1)
+returns c = rw (c .before .enum-told .given .1) refl
 
 returns-2 : tie.Need-returns-2
-returns-2 c = rw (c .before .enum-told2 .given .1)
+returns-2 c = rw (c .before .enum-told2 .given .1) refl
 
 returns-3 : tie.Need-returns-3
-returns-3 c = rw (c .before .enum-told3 .given .1)
+returns-3 c = rw (c .before .enum-told3 .given .1) refl
 
 returns-4 : tie.Need-returns-4
-returns-4 c = rw (c .before .enum-told4 .given .1)
+returns-4 c = rw (c .before .enum-told4 .given .1) refl
 
 returns-5 : tie.Need-returns-5
-returns-5 c = rw (c .before .enum-told5 .given .1)
+returns-5 c = rw (c .before .enum-told5 .given .1) refl
 
 pub counted-spec : {M : Type 1} → statement M
 counted-spec =
