@@ -159,7 +159,6 @@ fn zero_axis() -> Axis
 
 // The first n records, zero records after them.
 fn keep(n: usize, axes: [Axis; 8]) -> [Axis; 8]
-    requires { ⌜ n ≤ 8 ⌝ }
     ensures { λ r. ⌜ r ≡ keep n axes ⌝ }
 {
     let zero = zero_axis();
@@ -232,7 +231,6 @@ pub(super) fn fresh(
     coefficients: Coefficients,
     budget: u64,
 ) -> Search
-    requires { ⌜ n ≤ 8 ⌝ }
     ensures { λ r. ⌜ r ≡ fresh n axes choice coefficients budget ⌝ }
 {
     let kept = keep(n, axes);

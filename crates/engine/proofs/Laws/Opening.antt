@@ -6,14 +6,11 @@ use Prim.Native.Nat.{ℕ, zero, suc, _+_, _-_, _≤_, _<_}
 use native.Mathlib.Omega.{arith}
 use lib.ListN.{getD}
 use Rattle.rules.specs.Trial.{noAxis}
-use Rattle.rules.specs.Opening.{check, axisChecks, axesChecks, openVerdict, fresh}
+use Rattle.rules.specs.Opening.{check, axisChecks, axesChecks}
 use Rattle.rules.specs.declared.Axis.{Axis}
-use Rattle.rules.specs.declared.Coefficients.{Coefficients}
-use Rattle.rules.specs.declared.RuleChoice.{RuleChoice}
 use Rattle.rules.specs.declared.Verdict.{Verdict}
 use Rattle.rules.specs.declared.Verdict.the-variants.{Accepted, Refused}
 use Rattle.rules.specs.declared.Refusal.{Refusal}
-use Rattle.rules.proofs.Laws.Openings.{opened-sane}
 
 -- ---- the checks of the axes
 
@@ -49,8 +46,3 @@ axes-first n (suc k) xs u v l h e =
     let less : suc k - 1 ≡ k = omega arith in
     let next : n - k ≡ suc (n - suc k) = omega arith in
     rw (e, axis-then, less, next)
-
--- an opening that is not refused has at most eight axes
-pub accepted-count : (n : ℕ) (axes : List Axis) (rule : RuleChoice) (c : Coefficients) (budget : ℕ) → openVerdict n axes rule c budget ≡ Accepted → n ≤ 8
-unfolding fresh
-accepted-count n axes rule c budget h = opened-sane n axes rule c budget h .atMost8

@@ -1,4 +1,4 @@
--- Laws on what one reading does: the best, the budget, the open readings, the end of a piece. Assumes nothing.
+-- Laws on what one reading does: the best, the budget, the open readings. Assumes nothing.
 use mathlib.Core.Path.{_≡_, refl, sym}
 use mathlib.Core.Bool.{true, false, true≢false}
 use mathlib.Core.Logic.{_≢_, _⊎_, ⊎-elim}

@@ -1,7 +1,5 @@
-use mathlib.Core.Path.{sym, _∙_}
 use borrow.Author.Needs.{needs}
 use Rattle.rules.specs.Opening.{opening}
-use Rattle.engine.proofs.Laws.Opening.{accepted-count}
 use Rattle.engine.proofs.open_search.Statement.{statement}
 use Rattle.engine.proofs.open_search.Tie as tie
 
@@ -12,9 +10,7 @@ enum-told : tie.Need-enum-told
 enum-told c = search needs
 
 fresh-requires : tie.Need-fresh-requires
-fresh-requires c κs =
-    let a = c .before .before .before .args in
-    accepted-count (a .n) (a .axes) (a .rule) (a .coefficients) (a .budget) (sym (c .before .before .open-verdict .ensures) ∙ c .enum-told .given .1)
+fresh-requires c κs = search needs
 
 enum-known-verdict : tie.Need-enum-known-verdict
 enum-known-verdict c = search needs
