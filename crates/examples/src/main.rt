@@ -1,5 +1,5 @@
 // P1 to P12 of document 01 and further cases, run through the engine's calls. What the contracts prove of an
-// answer is expected; every trial is printed by its bits.
+// answer is expected; the trials are printed by their bits.
 mod cases;
 mod hold;
 mod list;
