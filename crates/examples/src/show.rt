@@ -17,22 +17,13 @@ pub(super) fn number(n: u64) {
     io::print_decimal(STDOUT_FILENO, n);
 }
 
-// The bits of a float; 7ff8000000000000 for a NaN.
-fn bits(x: f64) -> u64 {
-    if x != x {
-        0x7ff8000000000000
-    } else {
-        f64::to_bits(x)
-    }
-}
-
 // Writes the first n coordinates of a point by their bits.
 fn coordinates(n: usize, point: [f64; 8]) {
     let mut a = 0;
     while a < 8 {
         if a < n {
             text(b" ");
-            io::print_hex(STDOUT_FILENO, bits(point[a]), 16);
+            io::print_hex(STDOUT_FILENO, tune_text::bits_of(point[a]), 16);
         }
         a += 1;
     }

@@ -19,14 +19,14 @@ slice-aggregate-text c = search needs
 text-requires : tie.Need-text-requires Inv-loop μ-loop
 text-requires c κs = search needs
 
-mul-bits : tie.Need-mul-bits Inv-loop μ-loop
-mul-bits c = omega arith
+mul-bits-of : tie.Need-mul-bits-of Inv-loop μ-loop
+mul-bits-of c = omega arith
 
-array-read-bits : tie.Need-array-read-bits Inv-loop μ-loop
-array-read-bits c = omega arith
+array-read-bits-of : tie.Need-array-read-bits-of Inv-loop μ-loop
+array-read-bits-of c = omega arith
 
-bits-requires : tie.Need-bits-requires Inv-loop μ-loop
-bits-requires c κs = search needs
+bits-of-requires : tie.Need-bits-of-requires Inv-loop μ-loop
+bits-of-requires c κs = search needs
 
 print-hex-requires : tie.Need-print-hex-requires Inv-loop μ-loop
 print-hex-requires c κs = search needs
@@ -52,9 +52,9 @@ coordinates-spec =
     loop-holds
     slice-aggregate-text
     text-requires
-    mul-bits
-    array-read-bits
-    bits-requires
+    mul-bits-of
+    array-read-bits-of
+    bits-of-requires
     print-hex-requires
     add-a
     loop-less

@@ -1,0 +1,143 @@
+-- Laws on the lengths of the lines: none is longer than 192 bytes. Assumes nothing.
+use mathlib.Core.List.{List, [], _∷_}
+use Prim.Native.Nat.{ℕ, suc, _≤_}
+use native.Mathlib.Omega.{arith}
+use lib.ListN.{length, drop, getD, length-append}
+use lib.Dec.{ltb, eqb}
+use lib.Ieee.{Float}
+use Rattle.rules.specs.Opening.{numberOf}
+use Rattle.rules.specs.Calls.{asking, showing}
+use Rattle.rules.specs.declared.Asked.{Asked}
+use Rattle.rules.specs.declared.Search.{Search}
+use Rattle.rules.specs.declared.Shown.{Shown}
+use Rattle.rules.specs.declared.Verdict.{Verdict}
+use Rattle.rules.specs.declared.Verdict.the-variants.{Accepted, Refused}
+use Rattle.rules.proofs.Laws.Tests.{cond-elim}
+use Rattle.tune_text.specs.Fields.{whole, hexadecimal, isLine, values}
+use Rattle.tune_text.specs.Lines.{pointAndCost, readingLine, bestLine, endLine, refusedLine, badLine}
+use Rattle.tune_text.specs.Reading.{
+  Turned,
+  openedBy,
+  openingOf,
+  axisLines,
+  furnished,
+  requestOf,
+  axisOf,
+  withAxis,
+  toldBy,
+  answerOf,
+  costTold,
+  lineRead,
+  endingOf,
+  bestBy,
+  searchEnd,
+  lastLine,
+}
+use Rattle.tune_text.specs.Transcript.{stopped}
+use Rattle.tune_text.specs.Steps.{stepping}
+use Rattle.tune_text.specs.declared.Ending.{Ending}
+use Rattle.tune_text.specs.declared.Ending.the-variants.{Waiting}
+use Rattle.tune_text.specs.declared.Stage.{Stage}
+use Rattle.tune_text.specs.declared.Stage.the-variants.{Head, Axes, Costs, Done}
+use Rattle.tune_text.specs.declared.Request.{Request}
+use Rattle.tune_text.specs.declared.Progress.{Progress}
+use Rattle.tune_text.specs.declared.State.{State}
+use Rattle.tune_text.specs.declared.Stepped.{Stepped}
+use Rattle.tune_text.proofs.Laws.Decimals.{decimal-short, coordinates-length}
+use Rattle.tune_text.proofs.Laws.Writing.{end-and-short}
+use Rattle.tune_text.proofs.Laws.Running.{step-cases}
+
+-- ---- the lines of the output
+
+-- the line of a malformed line
+bad-short : (i : ℕ) → length (badLine i) ≤ 192
+bad-short i = simp length-append (omega (arith, decimal-short i))
+
+-- that of a refusal
+refused-short : (k : ℕ) → length (refusedLine k) ≤ 192
+refused-short k = simp length-append (omega (arith, decimal-short k))
+
+-- a point and its cost
+point-short : (n : ℕ) (x : List Float) (cost : ℕ) → length (pointAndCost n x cost) ≤ 158
+point-short n x cost = simp (length-append, coordinates-length) (omega (arith, decimal-short cost))
+
+-- a reading
+reading-short : (number n : ℕ) (x : List Float) (cost : ℕ) → length (readingLine number n x cost) ≤ 192
+reading-short number n x cost = rw length-append (omega (arith, decimal-short number, point-short n x cost))
+
+-- the last line with the best
+best-short : (e : Ending) (n : ℕ) (x : List Float) (cost : ℕ) → length (bestLine e n x cost) ≤ 192
+best-short e n x cost = rw length-append (omega (arith, end-and-short e, point-short n x cost))
+
+-- and without
+end-short : (e : Ending) → length (endLine e) ≤ 192
+end-short e = simp length-append (omega (arith, end-and-short e))
+
+-- ---- the line that a step prints
+
+-- it is short
+abbrev Short : Turned → Type 0
+Short t = length (t .line) ≤ 192
+
+-- the line of an opening
+opened-short : (v : Verdict) (q : Request) (s : Search) → Short (openedBy v q s)
+opened-short Accepted q s = omega arith
+opened-short (Refused r) q s = refused-short (numberOf r)
+
+-- that of an axis line, or of the first line
+furnished-short : (k : ℕ) (q : Request) (s : Search) → Short (furnished k q s)
+unfolding furnished
+furnished-short k q s =
+    cond-elim Short (ltb k (axisLines (q .n))) (λ e. omega arith) (λ e. opened-short (openingOf q .verdict) q (openingOf q .search))
+
+-- that of a cost
+told-short : (v : Verdict) (p : Progress) (a : Asked) (s : Search) (cost : ℕ) → Short (toldBy v p a s cost)
+told-short Accepted p a s cost = reading-short (a .number) (p .search .setup .n) (a .point) cost
+told-short (Refused r) p a s cost = refused-short (numberOf r)
+
+cost-short : (p : Progress) (cost : ℕ) → Short (costTold p cost)
+unfolding costTold
+cost-short p cost = told-short (answerOf p cost .verdict) p (asking (p .search)) (answerOf p cost .search) cost
+
+-- that of any line
+read-short : (stage : Stage) (p : Progress) (i : ℕ) (line : List ℕ) → Short (lineRead stage p i line)
+unfolding lineRead
+read-short Head p i line =
+    cond-elim Short (isLine whole 3 line) (λ e. furnished-short 0 (requestOf (values whole line)) (p .search)) (λ e. bad-short i)
+read-short (Axes k) p i line =
+    cond-elim Short (isLine hexadecimal 4 line)
+    (λ e. furnished-short (suc k) (withAxis k (axisOf (values hexadecimal line)) (p .request)) (p .search)) (λ e. bad-short i)
+read-short Costs p i line =
+    cond-elim Short (isLine whole 1 line) (λ e. cost-short p (getD (values whole line) 0 0)) (λ e. bad-short i)
+read-short Done p i line = omega arith
+
+-- the last line, where a reading was accepted
+shown-short : (v : Verdict) (s : Search) (b : Shown) → length (bestBy v s b) ≤ 192
+shown-short Accepted s b = best-short (endingOf (s .phase)) (s .setup .n) (b .reading .point) (b .reading .cost)
+shown-short (Refused r) s b = refused-short (numberOf r)
+
+-- that of any stage
+last-short : (stage : Stage) (s : Search) → length (lastLine stage s) ≤ 192
+unfolding lastLine searchEnd
+last-short Head s = end-short Waiting
+last-short (Axes k) s = end-short Waiting
+last-short Costs s =
+    cond-elim (λ (line : List ℕ). length line ≤ 192) (eqb (s .readings) 0)
+    (λ e. end-short (endingOf (s .phase)))
+    (λ e. shown-short (showing s .verdict) s (showing s))
+last-short Done s = omega arith
+
+-- that of an input that stops
+stopped-short : (p : Progress) (i : ℕ) (left : List ℕ) → length (stopped p i left) ≤ 192
+stopped-short p i [] = last-short (p .stage) (p .search)
+stopped-short p i (x ∷ xs) = bad-short i
+
+-- no step prints a longer line
+pub short : (bytes : List ℕ) (s : State) → stepping bytes s .text .count ≤ 192
+short bytes s =
+    step-cases bytes s (λ (r : Stepped). r .text .count ≤ 192)
+    (λ d. omega arith)
+    (λ d l. bad-short 0)
+    (λ d l o. last-short (s .progress .stage) (s .progress .search))
+    (λ d l o h. read-short (s .progress .stage) (s .progress) (s .line) _)
+    (λ d l o h. stopped-short (s .progress) (s .line) (drop (s .position) bytes))

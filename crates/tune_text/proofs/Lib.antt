@@ -1,0 +1,4 @@
+-- Theorems that no single function owns.
+pub mod Laws
+pub mod Whole
+pub mod Worked

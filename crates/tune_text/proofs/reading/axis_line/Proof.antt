@@ -1,0 +1,78 @@
+use mathlib.Core.Path.{_≡_}
+use native.Mathlib.Numerals.{add-one}
+use lib.ListN.{length, length-map}
+use borrow.Author.Tests.{not-true, not-false}
+use borrow.Author.Needs.{needs}
+use Rattle.tune_text.specs.Fields.{hexadecimal}
+use Rattle.tune_text.specs.Reading.{lineRead}
+use Rattle.tune_text.proofs.Laws.Reading.{is-line, number-read, past-eight}
+use Rattle.tune_text.proofs.reading.axis_line.Statement.{statement}
+use Rattle.tune_text.proofs.reading.axis_line.Tie as tie
+
+read-numbers-requires : tie.Need-read-numbers-requires
+read-numbers-requires c κs = search needs
+
+bad-requires : tie.Need-bad-requires
+bad-requires c κs = search needs
+
+end-with-requires : tie.Need-end-with-requires
+end-with-requires c κs = search needs
+
+returns : tie.Need-returns
+unfolding lineRead
+returns c =
+    let arm = c .before .before in
+    rw (is-line hexadecimal 4 _ (arm .before .before .read-numbers .ensures) (not-true _ (arm .if1 .taken)), ← c .before .bad .ensures) (c .end-with .ensures)
+
+axis-from-requires : tie.Need-axis-from-requires
+axis-from-requires c κs = search needs
+
+with-axis-requires : tie.Need-with-axis-requires
+with-axis-requires c κs = search needs
+
+add-furnish : tie.Need-add-furnish
+add-furnish c = search needs
+
+furnish-requires : tie.Need-furnish-requires
+furnish-requires c κs = search needs
+
+furnish-requires-2 : tie.Need-furnish-requires-2
+furnish-requires-2 c κs = search needs
+
+returns-2 : tie.Need-returns-2
+unfolding lineRead
+returns-2 c =
+    let arm = c .before .before .before .before .before .before .before in
+    let call = arm .before .before in
+    let a = call .before .before .args in
+    let h = is-line hexadecimal 4 (a .line .now) (call .read-numbers .ensures) (not-false _ (arm .if1 .left)) in
+    let v = number-read hexadecimal 4 (a .line .now) (call .read-numbers .ensures) h in
+    rw (h, ← v 0, ← v 1, ← v 2, ← v 3, ← c .before .before .axis-from .ensures, ← c .before .with-axis .ensures, ← add-one (a .k)) (c .furnish .ensures)
+
+-- a ninth axis line, which no step reads: the request keeps its eight axis records
+returns-3 : tie.Need-returns-3
+unfolding lineRead
+returns-3 c =
+    let arm = c .before .before .before .before .before in
+    let call = arm .before .before in
+    let start = call .before .before in
+    let a = start .args in
+    let h = is-line hexadecimal 4 (a .line .now) (call .read-numbers .ensures) (not-false _ (arm .if1 .left)) in
+    let eight : length (a .progress .request .axes) ≡ 8 = simp length-map at (start .good .1 .0 .1 .1 .1 .0 .1 .1 .1 .1 .1 .0 .1 .0 .1) in
+    rw (h, past-eight _ _ (a .progress .request) _ (c .before .if2 .left) eight) (c .furnish2 .ensures)
+
+pub axis-line-spec : {M : Type 1} → statement M
+axis-line-spec =
+    tie.close
+    (tie.spec
+    read-numbers-requires
+    bad-requires
+    end-with-requires
+    returns
+    axis-from-requires
+    with-axis-requires
+    add-furnish
+    furnish-requires
+    furnish-requires-2
+    returns-2
+    returns-3)

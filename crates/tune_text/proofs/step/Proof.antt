@@ -1,0 +1,83 @@
+use borrow.Author.Tests.{le-leb, lt-leb}
+use borrow.Author.Needs.{needs}
+use Rattle.tune_text.specs.Steps.{stepping}
+use Rattle.tune_text.proofs.step.Statement.{statement}
+use Rattle.tune_text.proofs.step.Tie as tie
+
+stage-done-requires : tie.Need-stage-done-requires
+stage-done-requires c κs = search needs
+
+no-line-requires : tie.Need-no-line-requires
+no-line-requires c κs = search needs
+
+returns : tie.Need-returns
+unfolding stepping
+returns c = rw (← c .before .before .stage-done .ensures, c .before .if1 .taken, c .no-line .ensures)
+
+bad-requires : tie.Need-bad-requires
+bad-requires c κs = search needs
+
+finish-requires : tie.Need-finish-requires
+finish-requires c κs = search needs
+
+returns-2 : tie.Need-returns-2
+unfolding stepping
+returns-2 c =
+    let d = c .before .before .before in
+    rw (← d .before .stage-done .ensures, d .if1 .left, lt-leb _ _ (c .before .before .if2 .taken), c .finish .ensures, c .before .bad .ensures)
+
+is-over-requires : tie.Need-is-over-requires
+is-over-requires c κs = search needs
+
+last-line-requires : tie.Need-last-line-requires
+last-line-requires c κs = search needs
+
+finish-requires-2 : tie.Need-finish-requires-2
+finish-requires-2 c κs = search needs
+
+returns-3 : tie.Need-returns-3
+unfolding stepping
+returns-3 c =
+    let d = c .before .before .before .before in
+    rw (
+      ← d .before .before .stage-done .ensures,
+      d .before .if1 .left,
+      le-leb _ _ (d .if2 .left),
+      ← c .before .before .before .is-over .ensures,
+      c .before .before .if3 .taken,
+      c .finish2 .ensures,
+      c .before .last-line .ensures,
+    )
+
+line-step-requires : tie.Need-line-step-requires
+line-step-requires c κs = search needs
+
+returns-4 : tie.Need-returns-4
+unfolding stepping
+returns-4 c =
+    let d = c .before .before .before in
+    rw (
+      ← d .before .before .stage-done .ensures,
+      d .before .if1 .left,
+      le-leb _ _ (d .if2 .left),
+      ← c .before .before .is-over .ensures,
+      c .before .if3 .left,
+      c .line-step .ensures,
+    )
+
+pub step-spec : {M : Type 1} → statement M
+step-spec =
+    tie.close
+    (tie.spec
+    stage-done-requires
+    no-line-requires
+    returns
+    bad-requires
+    finish-requires
+    returns-2
+    is-over-requires
+    last-line-requires
+    finish-requires-2
+    returns-3
+    line-step-requires
+    returns-4)

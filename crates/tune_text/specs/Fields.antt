@@ -1,0 +1,90 @@
+-- "The program", the lines of the input: how a text is cut into lines and a line into fields, and what number a field is.
+use mathlib.Core.Bool.{Bool, true, false, cond, _&&_}
+use mathlib.Core.List.{List, [], _∷_, _++_, map}
+use Prim.Native.Nat.{ℕ, _+_, _*_, _-_}
+use lib.ListN.{length, replicate}
+use lib.Dec.{leb, ltb, eqb}
+use Rattle.tune_text.specs.declared.Number.{Number}
+use Rattle.tune_text.specs.declared.Numbers.{Numbers}
+
+-- the byte that "ends every line"
+abbrev pub newline : ℕ
+newline = 10
+
+-- the byte that "stands between fields"
+abbrev pub space : ℕ
+space = 32
+
+-- a byte in front of the first piece
+abbrev pub onto : ℕ → List (List ℕ) → List (List ℕ)
+onto x [] = (x ∷ []) ∷ []
+onto x (p ∷ ps) = (x ∷ p) ∷ ps
+
+-- a text cut at each byte b: the pieces before it and the piece after the last; a text without b is one piece
+unfoldable pub cut : ℕ → List ℕ → List (List ℕ)
+cut b [] = [] ∷ []
+cut b (x ∷ xs) = cond (eqb x b) ([] ∷ cut b xs) (onto x (cut b xs))
+
+-- the digit that a byte is, `0` to `9`, then "hexadecimal digits are lowercase", `a` to `f`; 16 for any other byte
+abbrev pub digitOf : ℕ → ℕ
+digitOf x = cond (leb 48 x && leb x 57) (x - 48) (cond (leb 97 x && leb x 102) (x - 87) 16)
+
+-- every byte is a digit in this base
+unfoldable pub allDigits : ℕ → List ℕ → Bool
+allDigits base [] = true
+allDigits base (x ∷ xs) = ltb (digitOf x) base && allDigits base xs
+
+-- the number that digits go on to after those that gave v
+unfoldable pub value : ℕ → ℕ → List ℕ → ℕ
+value base v [] = v
+value base v (x ∷ xs) = value base (v * base + digitOf x) xs
+
+-- the form of a field's number: its base, and how few and how many digits it may have
+pub record Form : Type 0 where
+  pub base : ℕ
+  pub least : ℕ
+  pub most : ℕ
+
+-- a form by its three numbers
+abbrev pub form : ℕ → ℕ → ℕ → Form
+form base least most = record { base = base; least = least; most = most }
+
+-- "Whole numbers are 1 to 10 decimal digits"
+abbrev pub whole : Form
+whole = form 10 1 10
+
+-- "the 16 hexadecimal digits of their bits"
+abbrev pub hexadecimal : Form
+hexadecimal = form 16 16 16
+
+-- a field has this form
+abbrev pub isNumber : Form → List ℕ → Bool
+isNumber f xs = leb (f .least) (length xs) && leb (length xs) (f .most) && allDigits (f .base) xs
+
+-- every field has this form
+unfoldable pub allNumbers : Form → List (List ℕ) → Bool
+allNumbers f [] = true
+allNumbers f (xs ∷ xss) = isNumber f xs && allNumbers f xss
+
+-- a line of k fields of this form; "a line of any other form is malformed"
+unfoldable pub isLine : Form → ℕ → List ℕ → Bool
+isLine f k line = eqb (length (cut space line)) k && allNumbers f (cut space line)
+
+-- the number of a field
+abbrev pub numberIn : Form → List ℕ → ℕ
+numberIn f xs = value (f .base) 0 xs
+
+-- the numbers of a line, field by field
+abbrev pub values : Form → List ℕ → List ℕ
+values f line = map (numberIn f) (cut space line)
+
+-- what reading a field gives: its number, or 0 where its form is another
+unfoldable pub numberOf : Form → List ℕ → Number
+numberOf f xs = cond (isNumber f xs) (record { well = true; value = numberIn f xs }) (record { well = false; value = 0 })
+
+-- what reading a line of k fields gives: its numbers, with zeros up to four; zeros alone where it is malformed
+unfoldable pub numbersOf : Form → ℕ → List ℕ → Numbers
+numbersOf f k line =
+    cond (isLine f k line)
+    (record { well = true; values = values f line ++ replicate (4 - k) 0 })
+    (record { well = false; values = replicate 4 0 })

@@ -1,0 +1,7 @@
+pub mod Ascii
+pub mod Fields
+pub mod Lines
+pub mod Reading
+pub mod Transcript
+pub mod Steps
+pub mod Worked

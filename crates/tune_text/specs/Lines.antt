@@ -1,0 +1,85 @@
+-- "The program", the lines of the output, each by its bytes.
+use mathlib.Core.Bool.{Bool, cond}
+use mathlib.Core.List.{List, [], _∷_, _++_}
+use Prim.Native.Nat.{ℕ, zero, suc, _+_, _-_, _≤_, min}
+use mathlib.Core.Path.{_≡_}
+use lib.ListN.{length, getD, take, replicate}
+use lib.Dec.{eqb}
+use lib.Ieee.{Float, binary64, toBits, nan}
+use Rattle.io.specs.Digits.{digits}
+use Rattle.rules.specs.declared.Cause.{Cause}
+use Rattle.rules.specs.declared.Cause.the-variants.{Settled, Budget}
+use Rattle.tune_text.specs.Ascii.{bytes}
+use Rattle.tune_text.specs.Fields.{newline, space}
+use Rattle.tune_text.specs.declared.Ending.{Ending}
+use Rattle.tune_text.specs.declared.Ending.the-variants.{Waiting, Because}
+use Rattle.tune_text.specs.declared.Text.{Text}
+
+-- digits without the zeros in front of them, but for the last digit
+unfoldable pub trim : List ℕ → List ℕ
+trim [] = []
+trim (x ∷ []) = x ∷ []
+trim (x ∷ (y ∷ ys)) = cond (eqb x 48) (trim (y ∷ ys)) (x ∷ (y ∷ ys))
+
+-- a whole number in decimal; twenty digits hold every number that the program has
+unfoldable pub decimal : ℕ → List ℕ
+decimal n = trim (digits 10 20 n)
+
+-- a coordinate: "the 16 hexadecimal digits" of its bits, after a space
+abbrev pub coordinate : Float → List ℕ
+coordinate x = space ∷ digits 16 16 (toBits binary64 x)
+
+-- the first k coordinates of a point
+unfoldable pub coordinates : ℕ → List Float → List ℕ
+coordinates zero x = []
+coordinates (suc k) x = coordinates k x ++ coordinate (getD x k nan)
+
+-- "the point's n coordinates and the cost", to the end of the line; a point has eight
+abbrev pub pointAndCost : ℕ → List Float → ℕ → List ℕ
+pointAndCost n x cost = coordinates (min n 8) x ++ (space ∷ (decimal cost ++ (newline ∷ [])))
+
+-- "per accepted reading, its number, the point's n coordinates and the cost"
+abbrev pub readingLine : ℕ → ℕ → List Float → ℕ → List ℕ
+readingLine number n x cost = decimal number ++ pointAndCost n x cost
+
+-- the word of a cause: `settled` or `budget`
+abbrev pub causeWord : Cause → List ℕ
+causeWord Settled = bytes "settled"
+causeWord Budget = bytes "budget"
+
+-- the word of an ending: `waiting`, or that of its cause
+abbrev pub word : Ending → List ℕ
+word Waiting = bytes "waiting"
+word (Because c) = causeWord c
+
+-- `end `, the cause
+abbrev pub endAnd : Ending → List ℕ
+endAnd e = bytes "end " ++ word e
+
+-- "last `end`, the cause, best point and cost"
+abbrev pub bestLine : Ending → ℕ → List Float → ℕ → List ℕ
+bestLine e n x cost = endAnd e ++ pointAndCost n x cost
+
+-- the same "without point and cost if no reading was accepted"
+abbrev pub endLine : Ending → List ℕ
+endLine e = endAnd e ++ (newline ∷ [])
+
+-- "A refusal prints `refused` and its number"
+abbrev pub refusedLine : ℕ → List ℕ
+refusedLine k = bytes "refused " ++ (decimal k ++ (newline ∷ []))
+
+-- "a malformed line `bad` and its line number"
+abbrev pub badLine : ℕ → List ℕ
+badLine i = bytes "bad " ++ (decimal i ++ (newline ∷ []))
+
+-- how the step hands over a line: its bytes, with zeros up to 192, and how many they are; the longest line has 178
+abbrev pub textOf : List ℕ → Text
+textOf xs = record { bytes = xs ++ replicate (192 - length xs) 0; count = length xs }
+
+-- the bytes of a line that was handed over
+abbrev pub written : Text → List ℕ
+written t = take (t .count) (t .bytes)
+
+-- a line in the making, with room for k more bytes
+abbrev pub Room : ℕ → Text → Type 0
+Room k t = (t ≡ textOf (written t)) × (t .count + k ≤ 192)
