@@ -1,4 +1,5 @@
 // Reads standard input, steps through it, and writes the lines that the steps print.
+use libc::STDERR_FILENO;
 use libc::STDIN_FILENO;
 use libc::STDOUT_FILENO;
 use tune_text::State;
@@ -8,24 +9,35 @@ ghost use Prim.Native.Nat.{_<_};
 ghost use Rattle.tune_text.specs.Reading.{isDone};
 ghost use Rattle.tune_text.specs.Steps.{stepsLeft};
 
+// The state after some steps, and whether all their lines were written.
+struct Written {
+    state: State,
+    whole: bool,
+}
+
 // Makes as many steps as a buffer has room for, and writes their lines.
-fn write_some(input: &[u8], state: State) -> State
+fn write_some(input: &[u8], state: State) -> Written
     requires { ⌜ isDone (state .progress .stage) ≡ false ⌝ }
-    ensures { λ r. ⌜ stepsLeft (now (input .entry)) r < stepsLeft (now (input .entry)) state ⌝ }
+    ensures { λ r. ⌜ stepsLeft (now (input .entry)) (r .state) < stepsLeft (now (input .entry)) state ⌝ }
 {
     let mut buffer = io::large_buffer();
     let filled = tune_text::fill(input, state, &mut buffer);
     let count = filled.count;
-    io::write_all(STDOUT_FILENO, &buffer[..count]);
+    let whole = io::write_all(STDOUT_FILENO, &buffer[..count]);
     let next = filled.state;
-    next
+    Written { state: next, whole }
 }
 
-// All steps for this input.
+// Makes all steps for this input, or stops at the first write that fails.
 fn tune(input: &[u8]) {
     let mut state = tune_text::first();
     while !tune_text::is_done(state) {
-        state = write_some(input, state);
+        let written = write_some(input, state);
+        if !written.whole {
+            io::write_all(STDERR_FILENO, b"tune: standard output takes no more\n");
+            return;
+        }
+        state = written.state;
     }
 }
 

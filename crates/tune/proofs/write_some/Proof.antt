@@ -1,3 +1,4 @@
+-- `tune::write_some` meets its contract: less is left to do. Assumes nothing.
 use mathlib.Core.Path.{sym}
 use native.Mathlib.Omega.{arith}
 use lib.Seq.{length-take-le}
