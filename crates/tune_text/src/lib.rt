@@ -65,27 +65,27 @@ pub struct Filled {
 }
 
 // What a line of the input does: what is read so far, then, and the line that is printed.
-pub struct Turn {
-    pub progress: Progress,
-    pub text: Text,
+struct Turn {
+    progress: Progress,
+    text: Text,
 }
 
 // What the last line gives as the cause: why the search has ended, or that it waits for a cost.
-pub enum Ending {
+enum Ending {
     Waiting,
     Because(Cause),
 }
 
 // A field's number, if its form is right, else 0.
-pub struct Number {
-    pub well: bool,
-    pub value: u64,
+struct Number {
+    well: bool,
+    value: u64,
 }
 
 // A line's numbers, if its form is right, with zeros up to four.
-pub struct Numbers {
-    pub well: bool,
-    pub values: [u64; 4],
+struct Numbers {
+    well: bool,
+    values: [u64; 4],
 }
 
 // The state before the first line.
