@@ -64,13 +64,17 @@ bestLine e n x cost = endAnd e ++ pointAndCost n x cost
 abbrev pub endLine : Ending → List ℕ
 endLine e = endAnd e ++ (newline ∷ [])
 
+-- a word and a whole number
+abbrev pub numberedLine : List ℕ → ℕ → List ℕ
+numberedLine w n = w ++ (decimal n ++ (newline ∷ []))
+
 -- "A refusal prints `refused` and its number"
 abbrev pub refusedLine : ℕ → List ℕ
-refusedLine k = bytes "refused " ++ (decimal k ++ (newline ∷ []))
+refusedLine k = numberedLine (bytes "refused ") k
 
 -- "a malformed line `bad` and its line number"
 abbrev pub badLine : ℕ → List ℕ
-badLine i = bytes "bad " ++ (decimal i ++ (newline ∷ []))
+badLine i = numberedLine (bytes "bad ") i
 
 -- how the step hands over a line: its bytes, with zeros up to 192, and how many they are; the longest line has 178
 abbrev pub textOf : List ℕ → Text

@@ -5,10 +5,10 @@ use crate::Text;
 use rules::Cause;
 ghost use mathlib.Core.Path.{_≡_};
 ghost use mathlib.Core.List.{List, [], _∷_, _++_};
-ghost use Prim.Native.Nat.{min};
+ghost use Prim.Native.Nat.{_≤_, min};
 ghost use lib.ListN.{length};
 ghost use Rattle.tune_text.specs.Fields.{newline};
-ghost use Rattle.tune_text.specs.Lines.{decimal, coordinate, coordinates, pointAndCost, readingLine, endAnd, bestLine, endLine, refusedLine, badLine, textOf, written, Room};
+ghost use Rattle.tune_text.specs.Lines.{decimal, coordinate, coordinates, numberedLine, pointAndCost, readingLine, endAnd, bestLine, endLine, refusedLine, badLine, textOf, written, Room};
 
 // No line.
 pub(super) fn no_line() -> Text
@@ -126,18 +126,25 @@ pub(super) fn end(ending: Ending) -> Text
     put(t, b"\n")
 }
 
+// A word of at most eight bytes, a whole number after it and the line's end.
+fn numbered(word: &[u8], n: u64) -> Text
+    requires { ⌜ length (now word) ≤ 8 ⌝ }
+    ensures { λ r. ⌜ r ≡ textOf (numberedLine (now (word .entry)) n) ⌝ }
+{
+    let t = put(no_line(), word);
+    put_last(t, n)
+}
+
 // A refusal by its number.
 pub(super) fn refused(number: u64) -> Text
     ensures { λ r. ⌜ r ≡ textOf (refusedLine number) ⌝ }
 {
-    let t = put(no_line(), b"refused ");
-    put_last(t, number)
+    numbered(b"refused ", number)
 }
 
 // A malformed line by its number.
 pub(super) fn bad(line: u64) -> Text
     ensures { λ r. ⌜ r ≡ textOf (badLine line) ⌝ }
 {
-    let t = put(no_line(), b"bad ");
-    put_last(t, line)
+    numbered(b"bad ", line)
 }

@@ -13,8 +13,9 @@ use Rattle.rules.specs.declared.Shown.{Shown}
 use Rattle.rules.specs.declared.Verdict.{Verdict}
 use Rattle.rules.specs.declared.Verdict.the-variants.{Accepted, Refused}
 use Rattle.rules.proofs.Laws.Tests.{cond-elim}
+use Rattle.tune_text.specs.Ascii.{bytes}
 use Rattle.tune_text.specs.Fields.{whole, hexadecimal, isLine, values}
-use Rattle.tune_text.specs.Lines.{pointAndCost, readingLine, bestLine, endLine, refusedLine, badLine}
+use Rattle.tune_text.specs.Lines.{numberedLine, pointAndCost, readingLine, bestLine, endLine, refusedLine, badLine}
 use Rattle.tune_text.specs.Reading.{
   Turned,
   openedBy,
@@ -49,13 +50,17 @@ use Rattle.tune_text.proofs.Laws.Running.{step-cases}
 
 -- ---- the lines of the output
 
+-- a word of at most eight bytes and a number
+numbered-short : (w : List ℕ) (n : ℕ) → length w ≤ 8 → length (numberedLine w n) ≤ 192
+numbered-short w n h = simp length-append (omega (arith, decimal-short n))
+
 -- the line of a malformed line
 bad-short : (i : ℕ) → length (badLine i) ≤ 192
-bad-short i = simp length-append (omega (arith, decimal-short i))
+bad-short i = numbered-short (bytes "bad ") i (omega arith)
 
 -- that of a refusal
 refused-short : (k : ℕ) → length (refusedLine k) ≤ 192
-refused-short k = simp length-append (omega (arith, decimal-short k))
+refused-short k = numbered-short (bytes "refused ") k (omega arith)
 
 -- a point and its cost
 point-short : (n : ℕ) (x : List Float) (cost : ℕ) → length (pointAndCost n x cost) ≤ 158
