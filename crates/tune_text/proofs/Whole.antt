@@ -7,18 +7,19 @@ use native.Mathlib.Numerals.{add-one}
 use native.Mathlib.Omega.{arith}
 use lib.ListN.{length, take, drop, length-drop}
 use lib.Seq.{drop-drop}
-use lib.Dec.{leb, eqb}
+use lib.Dec.{leb}
 use borrow.Author.Tests.{le-leb, leb-true, leb-false}
 use Rattle.bytes.specs.Bytes.{indexOf}
 use Rattle.rules.proofs.Laws.Tests.{cond-elim}
 use Rattle.tune_text.specs.Fields.{newline, cut}
-use Rattle.tune_text.specs.Lines.{badLine, written}
+use Rattle.tune_text.specs.Lines.{badLine}
 use Rattle.tune_text.specs.Reading.{Turned, nothingRead, lineRead, lastLine, isOver, isDone}
 use Rattle.tune_text.specs.Transcript.{longest, stopped, told, transcript}
 use Rattle.tune_text.specs.Steps.{firstState, lineAfter, finished, passed, stepping, after, printed, stepsLeft}
 use Rattle.tune_text.specs.declared.Progress.{Progress}
 use Rattle.tune_text.specs.declared.State.{State}
 use Rattle.tune_text.specs.declared.Stepped.{Stepped}
+use Rattle.tune_text.specs.Handed.{written}
 use Rattle.tune_text.proofs.Laws.Cutting.{cut-line, cut-last, cut-some}
 use Rattle.tune_text.proofs.Laws.Writing.{written-text}
 use Rattle.tune_text.proofs.Laws.Running.{step-cases, some-left, few-left, left-done, left-less, printed-done}

@@ -1,7 +1,6 @@
 -- The worked texts, by computation. Assumes nothing.
-use mathlib.Core.List.{List, map}
+use mathlib.Core.List.{map}
 use mathlib.Core.Path.{_≡_, refl}
-use Prim.Native.Nat.{ℕ}
 use Rattle.rules.proofs.Examples.{calls}
 use Rattle.tune_text.specs.Fields.{cut, allDigits, value, allNumbers, isLine}
 use Rattle.tune_text.specs.Lines.{trim, decimal, coordinates}

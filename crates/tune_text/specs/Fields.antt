@@ -1,11 +1,9 @@
 -- "The program", the lines of the input: how a text is cut into lines and a line into fields, and what number a field is.
-use mathlib.Core.Bool.{Bool, true, false, cond, _&&_}
-use mathlib.Core.List.{List, [], _∷_, _++_, map}
+use mathlib.Core.Bool.{Bool, true, cond, _&&_}
+use mathlib.Core.List.{List, [], _∷_, map}
 use Prim.Native.Nat.{ℕ, _+_, _*_, _-_}
-use lib.ListN.{length, replicate}
+use lib.ListN.{length}
 use lib.Dec.{leb, ltb, eqb}
-use Rattle.tune_text.specs.declared.Number.{Number}
-use Rattle.tune_text.specs.declared.Numbers.{Numbers}
 
 -- the byte that "ends every line"
 abbrev pub newline : ℕ
@@ -77,14 +75,3 @@ numberIn f xs = value (f .base) 0 xs
 -- the numbers of a line, field by field
 abbrev pub values : Form → List ℕ → List ℕ
 values f line = map (numberIn f) (cut space line)
-
--- what reading a field gives: its number, or 0 where its form is another
-unfoldable pub numberOf : Form → List ℕ → Number
-numberOf f xs = cond (isNumber f xs) (record { well = true; value = numberIn f xs }) (record { well = false; value = 0 })
-
--- what reading a line of k fields gives: its numbers, with zeros up to four; zeros alone where it is malformed
-unfoldable pub numbersOf : Form → ℕ → List ℕ → Numbers
-numbersOf f k line =
-    cond (isLine f k line)
-    (record { well = true; values = values f line ++ replicate (4 - k) 0 })
-    (record { well = false; values = replicate 4 0 })

@@ -1,9 +1,8 @@
 -- "The program", the lines of the output, each by its bytes.
-use mathlib.Core.Bool.{Bool, cond}
+use mathlib.Core.Bool.{cond}
 use mathlib.Core.List.{List, [], _∷_, _++_}
-use Prim.Native.Nat.{ℕ, zero, suc, _+_, _-_, _≤_, min}
-use mathlib.Core.Path.{_≡_}
-use lib.ListN.{length, getD, take, replicate}
+use Prim.Native.Nat.{ℕ, zero, suc, min}
+use lib.ListN.{getD}
 use lib.Dec.{eqb}
 use lib.Ieee.{Float, binary64, toBits, nan}
 use Rattle.io.specs.Digits.{digits}
@@ -13,7 +12,6 @@ use Rattle.tune_text.specs.Ascii.{bytes}
 use Rattle.tune_text.specs.Fields.{newline, space}
 use Rattle.tune_text.specs.declared.Ending.{Ending}
 use Rattle.tune_text.specs.declared.Ending.the-variants.{Waiting, Because}
-use Rattle.tune_text.specs.declared.Text.{Text}
 
 -- digits without the zeros in front of them, but for the last digit
 unfoldable pub trim : List ℕ → List ℕ
@@ -75,15 +73,3 @@ refusedLine k = numberedLine (bytes "refused ") k
 -- "a malformed line `bad` and its line number"
 abbrev pub badLine : ℕ → List ℕ
 badLine i = numberedLine (bytes "bad ") i
-
--- how the step hands over a line: its bytes, with zeros up to 192, and how many they are; the longest line has 178
-abbrev pub textOf : List ℕ → Text
-textOf xs = record { bytes = xs ++ replicate (192 - length xs) 0; count = length xs }
-
--- the bytes of a line that was handed over
-abbrev pub written : Text → List ℕ
-written t = take (t .count) (t .bytes)
-
--- a line in the making, with room for k more bytes
-abbrev pub Room : ℕ → Text → Type 0
-Room k t = (t ≡ textOf (written t)) × (t .count + k ≤ 192)

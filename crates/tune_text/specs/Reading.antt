@@ -1,7 +1,7 @@
 -- "The program", what a line does: the line of n, budget and spread E, the axis lines, the costs, and the end.
-use mathlib.Core.Bool.{Bool, true, false, cond, not, _&&_}
-use mathlib.Core.List.{List, [], _∷_}
-use Prim.Native.Nat.{ℕ, suc, _+_}
+use mathlib.Core.Bool.{Bool, true, false, cond, _&&_}
+use mathlib.Core.List.{List, []}
+use Prim.Native.Nat.{ℕ, suc}
 use lib.ListN.{getD, replicate, set}
 use lib.Dec.{leb, ltb, eqb}
 use lib.Ieee.{binary64, ofBits}
@@ -21,32 +21,22 @@ use Rattle.rules.specs.declared.Search.{Search}
 use Rattle.rules.specs.declared.Verdict.{Verdict}
 use Rattle.rules.specs.declared.Verdict.the-variants.{Accepted, Refused}
 use Rattle.tune_text.specs.Fields.{whole, hexadecimal, isLine, values}
-use Rattle.tune_text.specs.Lines.{readingLine, bestLine, endLine, refusedLine, badLine, textOf}
+use Rattle.tune_text.specs.Lines.{readingLine, bestLine, endLine, refusedLine, badLine}
 use Rattle.tune_text.specs.declared.Ending.{Ending}
 use Rattle.tune_text.specs.declared.Ending.the-variants.{Waiting, Because}
 use Rattle.tune_text.specs.declared.Stage.{Stage}
 use Rattle.tune_text.specs.declared.Stage.the-variants.{Head, Axes, Costs, Done}
 use Rattle.tune_text.specs.declared.Request.{Request}
 use Rattle.tune_text.specs.declared.Progress.{Progress}
-use Rattle.tune_text.specs.declared.Text.{Text}
-use Rattle.tune_text.specs.declared.Turn.{Turn}
 
 -- what a line does: what is read so far, then, and the line that is printed, [] for none
 pub record Turned : Type 0 where
   pub progress : Progress
   pub line : List ℕ
 
--- how a function hands it over
-abbrev pub turnOf : Turned → Turn
-turnOf t = record { progress = t .progress; text = textOf (t .line) }
-
 -- what is read so far, at another stage
 abbrev pub at : Stage → Progress → Progress
 at stage p = record { stage = stage; request = p .request; search = p .search }
-
--- how a function hands over that this text is printed last
-abbrev pub endedWith : Progress → Text → Turn
-endedWith p text = record { progress = at Done p; text = text }
 
 -- a line is printed "and ends"
 abbrev pub ends : Progress → List ℕ → Turned

@@ -1,21 +1,21 @@
 -- The output one step at a time: what the promise of `step` cites, and what a run of steps prints.
-use mathlib.Core.Bool.{Bool, true, false, cond}
-use mathlib.Core.List.{List, [], _∷_, _++_}
+use mathlib.Core.Bool.{false, cond}
+use mathlib.Core.List.{List, [], _++_}
 use mathlib.Core.Path.{_≡_}
 use Prim.Native.Nat.{ℕ, zero, suc, _+_, _-_, _≤_, _<_}
 use lib.ListN.{length, take, drop}
 use lib.Dec.{leb, ltb}
 use Rattle.bytes.specs.Bytes.{indexOf}
 use Rattle.tune_text.specs.Fields.{newline}
-use Rattle.tune_text.specs.Lines.{badLine, textOf, written}
+use Rattle.tune_text.specs.Lines.{badLine}
 use Rattle.tune_text.specs.Reading.{Turned, nothingRead, at, lineRead, lastLine, isOver, isDone}
 use Rattle.tune_text.specs.Transcript.{longest, stopped}
-use Rattle.tune_text.specs.declared.Progress.{Progress}
 use Rattle.tune_text.specs.declared.Stage.the-variants.{Done}
 use Rattle.tune_text.specs.declared.State.{State}
 use Rattle.tune_text.specs.declared.Text.{Text}
 use Rattle.tune_text.specs.declared.Stepped.{Stepped}
 use Rattle.tune_text.specs.declared.Filled.{Filled}
+use Rattle.tune_text.specs.Handed.{textOf, written}
 
 -- the first state: before line 1
 unfoldable pub firstState : State

@@ -1,12 +1,12 @@
 -- "The program": the output for every input, line by line.
-use mathlib.Core.Bool.{Bool, true, false, cond}
+use mathlib.Core.Bool.{cond}
 use mathlib.Core.List.{List, [], _∷_, _++_}
-use Prim.Native.Nat.{ℕ, suc, _+_}
+use Prim.Native.Nat.{ℕ, suc}
 use lib.ListN.{length}
 use lib.Dec.{leb}
 use Rattle.tune_text.specs.Fields.{newline, cut}
 use Rattle.tune_text.specs.Lines.{badLine}
-use Rattle.tune_text.specs.Reading.{Turned, nothingRead, lineRead, lastLine, isOver, isDone}
+use Rattle.tune_text.specs.Reading.{nothingRead, lineRead, lastLine, isOver, isDone}
 use Rattle.tune_text.specs.declared.Progress.{Progress}
 
 -- "at most 65,536 bytes"

@@ -1,5 +1,5 @@
 -- "The program": document 01's example and further texts, what the definitions print beside what document 01 says.
-use mathlib.Core.List.{List, [], _∷_, map}
+use mathlib.Core.List.{List, [], _∷_}
 use Prim.Native.Nat.{ℕ}
 use Prim.Native.String.{String, _++_}
 use Rattle.tune_text.specs.Ascii.{bytes}

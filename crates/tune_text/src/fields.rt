@@ -3,7 +3,8 @@ use crate::Number;
 use crate::Numbers;
 ghost use mathlib.Core.Path.{_≡_};
 ghost use Prim.Native.Nat.{_^_, _≤_, _<_};
-ghost use Rattle.tune_text.specs.Fields.{digitOf, form, numberOf, numbersOf};
+ghost use Rattle.tune_text.specs.Fields.{digitOf, form};
+ghost use Rattle.tune_text.specs.Handed.{numberOf, numbersOf};
 
 // The digit that a byte is, `0` to `9` or `a` to `f`; 16 for any other byte.
 fn digit(x: u8) -> u64

@@ -8,8 +8,8 @@ use rules::Search;
 use rules::Verdict;
 ghost use mathlib.Core.Path.{_≡_};
 ghost use Rattle.rules.specs.Calls.{isEnded};
-ghost use Rattle.tune_text.specs.Lines.{textOf};
 ghost use Rattle.tune_text.specs.Reading.{endingOf, isDone, isOver, lastLine, searchEnd};
+ghost use Rattle.tune_text.specs.Handed.{textOf};
 
 // Whether nothing more is read or printed.
 pub(super) fn stage_done(stage: Stage) -> bool

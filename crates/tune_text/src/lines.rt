@@ -4,11 +4,12 @@ use crate::Ending;
 use crate::Text;
 use rules::Cause;
 ghost use mathlib.Core.Path.{_≡_};
-ghost use mathlib.Core.List.{List, [], _∷_, _++_};
+ghost use mathlib.Core.List.{[], _∷_, _++_};
 ghost use Prim.Native.Nat.{_≤_, min};
 ghost use lib.ListN.{length};
 ghost use Rattle.tune_text.specs.Fields.{newline};
-ghost use Rattle.tune_text.specs.Lines.{decimal, coordinate, coordinates, numberedLine, pointAndCost, readingLine, endAnd, bestLine, endLine, refusedLine, badLine, textOf, written, Room};
+ghost use Rattle.tune_text.specs.Lines.{decimal, coordinate, coordinates, numberedLine, pointAndCost, readingLine, endAnd, bestLine, endLine, refusedLine, badLine};
+ghost use Rattle.tune_text.specs.Handed.{textOf, written, Room};
 
 // No line.
 pub(super) fn no_line() -> Text

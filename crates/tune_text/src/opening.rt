@@ -14,7 +14,8 @@ ghost use mathlib.Core.Path.{_≡_};
 ghost use lib.ListN.{replicate};
 ghost use Rattle.rules.specs.Opening.{zeroAxis};
 ghost use Rattle.rules.specs.Examples.{usual as Examples·usual};
-ghost use Rattle.tune_text.specs.Reading.{axisLines, nothingRead, opened, furnished, turnOf};
+ghost use Rattle.tune_text.specs.Reading.{axisLines, nothingRead, opened, furnished};
+ghost use Rattle.tune_text.specs.Handed.{turnOf};
 
 // The usual coefficients: 1, 2, 1/2, 1/2.
 fn usual() -> Coefficients

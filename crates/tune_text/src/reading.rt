@@ -13,8 +13,9 @@ use rules::Search;
 use rules::Verdict;
 ghost use mathlib.Core.Path.{_≡_};
 ghost use Prim.Native.Nat.{_<_};
-ghost use Rattle.tune_text.specs.Reading.{axisOf, at as Reading·at, costTold, endedWith, lineRead, turnOf, withAxis};
+ghost use Rattle.tune_text.specs.Reading.{axisOf, at as Reading·at, costTold, lineRead, withAxis};
 ghost use Rattle.tune_text.specs.declared.Stage.the-variants.{Head, Axes, Costs};
+ghost use Rattle.tune_text.specs.Handed.{endedWith, turnOf};
 
 // What is read so far, at another stage.
 pub(super) fn at(stage: Stage, progress: Progress) -> Progress

@@ -13,12 +13,9 @@ ghost use mathlib.Core.List.{_++_};
 ghost use Prim.Native.Nat.{_+_, _≤_};
 ghost use lib.Dec.{leb};
 ghost use lib.ListN.{length, take, drop};
-ghost use Rattle.bytes.specs.Bytes.{indexOf};
-ghost use Rattle.tune_text.specs.Fields.{newline};
-ghost use Rattle.tune_text.specs.Lines.{written};
 ghost use Rattle.tune_text.specs.Reading.{isDone};
-ghost use Rattle.tune_text.specs.Transcript.{longest};
 ghost use Rattle.tune_text.specs.Steps.{lineAfter, finishedWith, lineStep};
+ghost use Rattle.tune_text.specs.Handed.{written};
 
 // The number of the line after line i.
 fn line_after(i: u64) -> u64

@@ -8,7 +8,8 @@ use lib.ListN.{length, take, drop, length-drop}
 use lib.Seq.{take-all, take-length, drop-drop}
 use lib.Dec.{eqb}
 use Rattle.bytes.specs.Bytes.{slice, indexOf, indexAfter}
-use Rattle.tune_text.specs.Fields.{cut, onto, Form, isNumber, numberIn, numberOf}
+use Rattle.tune_text.specs.Fields.{cut, onto, Form, isNumber, numberIn}
+use Rattle.tune_text.specs.Handed.{numberOf}
 
 -- ---- where the first byte b is
 

@@ -16,24 +16,7 @@ use Rattle.rules.proofs.Laws.Tests.{cond-elim}
 use Rattle.tune_text.specs.Ascii.{bytes}
 use Rattle.tune_text.specs.Fields.{whole, hexadecimal, isLine, values}
 use Rattle.tune_text.specs.Lines.{numberedLine, pointAndCost, readingLine, bestLine, endLine, refusedLine, badLine}
-use Rattle.tune_text.specs.Reading.{
-  Turned,
-  openedBy,
-  openingOf,
-  axisLines,
-  furnished,
-  requestOf,
-  axisOf,
-  withAxis,
-  toldBy,
-  answerOf,
-  costTold,
-  lineRead,
-  endingOf,
-  bestBy,
-  searchEnd,
-  lastLine,
-}
+use Rattle.tune_text.specs.Reading.{Turned, openedBy, openingOf, axisLines, furnished, requestOf, axisOf, withAxis, toldBy, answerOf, costTold, lineRead, endingOf, bestBy, searchEnd, lastLine}
 use Rattle.tune_text.specs.Transcript.{stopped}
 use Rattle.tune_text.specs.Steps.{stepping}
 use Rattle.tune_text.specs.declared.Ending.{Ending}

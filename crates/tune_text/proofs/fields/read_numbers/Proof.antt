@@ -16,7 +16,8 @@ use Rattle.bytes.specs.Bytes.{indexOf, slice}
 use Rattle.rules.proofs.Laws.Order.{le-or-lt}
 use Rattle.tune_text.specs.declared.Number.{Number}
 use Rattle.tune_text.specs.declared.Numbers.{Numbers}
-use Rattle.tune_text.specs.Fields.{space, cut, Form, form, isNumber, allNumbers, isLine, numberIn, numberOf, numbersOf}
+use Rattle.tune_text.specs.Fields.{space, cut, Form, form, isNumber, allNumbers, isLine, numberIn}
+use Rattle.tune_text.specs.Handed.{numberOf, numbersOf}
 use Rattle.tune_text.proofs.Laws.Cutting.{cut-next, cut-end, cut-some, number-test, number-well}
 use Rattle.tune_text.proofs.fields.read_numbers.Statement.{statement}
 use Rattle.tune_text.proofs.fields.read_numbers.Tie as tie

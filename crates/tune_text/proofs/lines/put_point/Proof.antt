@@ -6,7 +6,8 @@ use native.Mathlib.Numerals.{add-one}
 use native.Mathlib.Omega.{arith}
 use lib.ListN.{getD}
 use lib.Ieee.{nan}
-use Rattle.tune_text.specs.Lines.{coordinate, coordinates, textOf, written}
+use Rattle.tune_text.specs.Lines.{coordinate, coordinates}
+use Rattle.tune_text.specs.Handed.{textOf, written}
 use Rattle.tune_text.proofs.Laws.Decimals.{coordinates-length}
 use Rattle.tune_text.proofs.Laws.Writing.{room-more, then-more}
 use Rattle.tune_text.proofs.lines.put_point.Statement.{statement}

@@ -3,7 +3,8 @@ use Prim.Native.Nat.{ℕ, min}
 use native.Mathlib.Omega.{arith}
 use borrow.Author.Needs.{needs}
 use Rattle.tune_text.specs.Fields.{newline, space}
-use Rattle.tune_text.specs.Lines.{decimal, coordinates, Room}
+use Rattle.tune_text.specs.Lines.{decimal, coordinates}
+use Rattle.tune_text.specs.Handed.{Room}
 use Rattle.tune_text.proofs.Laws.Decimals.{coordinates-length}
 use Rattle.tune_text.proofs.Laws.Writing.{room-more, then-more}
 use Rattle.tune_text.proofs.lines.put_point_and_cost.Statement.{statement}
