@@ -1,5 +1,5 @@
 -- The lines of the steps, put together, are the transcript of the input, and the steps end within its length and one. Assumes nothing.
-use mathlib.Core.Path.{_≡_, refl, sym, _∙_}
+use mathlib.Core.Path.{_≡_, refl, sym, ap, _∙_}
 use mathlib.Core.Bool.{true, false, true≢false}
 use mathlib.Core.List.{List, [], _∷_, _++_, append-nil}
 use Prim.Native.Nat.{ℕ, zero, suc, _+_, _-_, _≤_, _<_}
@@ -22,7 +22,7 @@ use Rattle.tune_text.specs.declared.Stepped.{Stepped}
 use Rattle.tune_text.specs.Handed.{written}
 use Rattle.tune_text.proofs.Laws.Cutting.{cut-line, cut-last, cut-some}
 use Rattle.tune_text.proofs.Laws.Writing.{written-text}
-use Rattle.tune_text.proofs.Laws.Running.{step-cases, some-left, few-left, left-done, left-less, printed-done}
+use Rattle.tune_text.proofs.Laws.Running.{step-cases, some-left, few-left, left-done, left-less, printed-done, printed-join}
 
 -- ---- the end
 
@@ -126,3 +126,14 @@ whole bytes (suc k) h =
     cond-elim (λ (lines : List ℕ). printed (suc k) bytes firstState ≡ lines) (leb (length bytes) longest)
     (λ e. rest (suc k) bytes firstState (leb-true (length bytes) longest e) (omega arith) (omega arith))
     (λ e. long k bytes firstState refl (leb-false (length bytes) longest e))
+
+-- the same of any run of steps after which all is done, however many they are and however they are taken together
+pub whole-at-end :
+    (bytes : List ℕ) (k : ℕ) → isDone (after k bytes firstState .progress .stage) ≡ true → printed k bytes firstState ≡ transcript bytes
+whole-at-end bytes k d =
+    let more : ℕ = suc (length bytes) in
+    let all : printed (k + more) bytes firstState ≡ transcript bytes = whole bytes (k + more) (omega arith) in
+    sym (append-nil (printed k bytes firstState))
+    ∙ ap (λ (l : List ℕ). printed k bytes firstState ++ l) (sym (printed-done more bytes (after k bytes firstState) d))
+    ∙ sym (printed-join k more bytes firstState)
+    ∙ all

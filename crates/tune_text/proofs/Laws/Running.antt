@@ -2,7 +2,8 @@
 use mathlib.Core.Path.{_≡_, refl, sym, _∙_}
 use mathlib.Core.Bool.{Bool, true, false, cond, true≢false}
 use mathlib.Core.List.{List, [], _++_, append-nil, append-assoc}
-use Prim.Native.Nat.{ℕ, zero, suc, _-_, _≤_, _<_}
+use Prim.Native.Nat.{ℕ, zero, suc, _+_, _-_, _≤_, _<_}
+use native.Mathlib.Nat.{zero-add, suc-add}
 use native.Mathlib.Omega.{arith}
 use lib.ListN.{length, take, drop, length-drop}
 use lib.Dec.{leb, ltb}
@@ -117,3 +118,9 @@ pub printed-more : (k : ℕ) (bytes : List ℕ) (s : State)
 unfolding after printed
 printed-more zero bytes s = append-nil _
 printed-more (suc k) bytes s = rw (printed-more k bytes (stepping bytes s .state)) (simp append-assoc)
+
+-- steps and steps after them
+pub printed-join : (i j : ℕ) (bytes : List ℕ) (s : State) → printed (i + j) bytes s ≡ printed i bytes s ++ printed j bytes (after i bytes s)
+unfolding after printed
+printed-join zero j bytes s = rw zero-add
+printed-join (suc i) j bytes s = rw suc-add (rw (printed-join i j bytes (stepping bytes s .state)) (simp append-assoc))
