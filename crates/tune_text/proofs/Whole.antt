@@ -16,10 +16,10 @@ use Rattle.tune_text.specs.Lines.{badLine}
 use Rattle.tune_text.specs.Reading.{Turned, nothingRead, lineRead, lastLine, isOver, isDone}
 use Rattle.tune_text.specs.Transcript.{longest, stopped, told, transcript}
 use Rattle.tune_text.specs.Steps.{firstState, lineAfter, finished, passed, stepping, after, printed, stepsLeft}
+use Rattle.tune_text.specs.Handed.{written}
 use Rattle.tune_text.specs.declared.Progress.{Progress}
 use Rattle.tune_text.specs.declared.State.{State}
 use Rattle.tune_text.specs.declared.Stepped.{Stepped}
-use Rattle.tune_text.specs.Handed.{written}
 use Rattle.tune_text.proofs.Laws.Cutting.{cut-line, cut-last, cut-some}
 use Rattle.tune_text.proofs.Laws.Writing.{written-text}
 use Rattle.tune_text.proofs.Laws.Running.{step-cases, some-left, few-left, left-done, left-less, printed-done, printed-join}

@@ -10,12 +10,12 @@ use Rattle.tune_text.specs.Fields.{newline}
 use Rattle.tune_text.specs.Lines.{badLine}
 use Rattle.tune_text.specs.Reading.{Turned, nothingRead, at, lineRead, lastLine, isOver, isDone}
 use Rattle.tune_text.specs.Transcript.{longest, stopped}
+use Rattle.tune_text.specs.Handed.{textOf, written}
 use Rattle.tune_text.specs.declared.Stage.the-variants.{Done}
 use Rattle.tune_text.specs.declared.State.{State}
 use Rattle.tune_text.specs.declared.Text.{Text}
 use Rattle.tune_text.specs.declared.Stepped.{Stepped}
 use Rattle.tune_text.specs.declared.Filled.{Filled}
-use Rattle.tune_text.specs.Handed.{textOf, written}
 
 -- the first state: before line 1
 unfoldable pub firstState : State

@@ -10,8 +10,8 @@ use lib.Dec.{leb}
 use borrow.Author.Tests.{le-leb}
 use Rattle.tune_text.specs.Reading.{isDone}
 use Rattle.tune_text.specs.Steps.{stepping, after, printed, stepsLeft, Fills}
-use Rattle.tune_text.specs.declared.State.{State}
 use Rattle.tune_text.specs.Handed.{written}
+use Rattle.tune_text.specs.declared.State.{State}
 use Rattle.tune_text.proofs.Laws.Running.{falls, after-more, printed-more}
 
 -- so many steps from s have led to t, and their lines are the first count bytes of the buffer; less is left, or no step was made

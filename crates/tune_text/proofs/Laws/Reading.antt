@@ -16,9 +16,9 @@ use Rattle.rules.specs.declared.Search.{Search}
 use Rattle.rules.proofs.Laws.Tests.{cond-elim}
 use Rattle.tune_text.specs.Fields.{Form, isLine, values}
 use Rattle.tune_text.specs.Reading.{axisLines, furnished, withAxis}
+use Rattle.tune_text.specs.Handed.{numbersOf}
 use Rattle.tune_text.specs.declared.Numbers.{Numbers}
 use Rattle.tune_text.specs.declared.Request.{Request}
-use Rattle.tune_text.specs.Handed.{numbersOf}
 
 -- an opening with no axis gives the closed search
 pub no-axis-closed : (axes : List Axis) (rule : RuleChoice) (c : Coefficients) (budget : ℕ) → opening 0 axes rule c budget .search ≡ closed

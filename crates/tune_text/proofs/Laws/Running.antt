@@ -15,9 +15,9 @@ use Rattle.tune_text.specs.Lines.{badLine}
 use Rattle.tune_text.specs.Reading.{lineRead, lastLine, isOver, isDone}
 use Rattle.tune_text.specs.Transcript.{longest, stopped}
 use Rattle.tune_text.specs.Steps.{finished, passed, lineStep, stepping, after, printed, stepsLeft}
+use Rattle.tune_text.specs.Handed.{textOf, written}
 use Rattle.tune_text.specs.declared.State.{State}
 use Rattle.tune_text.specs.declared.Stepped.{Stepped}
-use Rattle.tune_text.specs.Handed.{textOf, written}
 
 -- what is left of the input
 abbrev left : List ℕ → State → List ℕ

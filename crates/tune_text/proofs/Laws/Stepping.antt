@@ -10,8 +10,8 @@ use Rattle.tune_text.specs.Fields.{newline}
 use Rattle.tune_text.specs.Lines.{badLine}
 use Rattle.tune_text.specs.Reading.{Turned, lineRead, lastLine}
 use Rattle.tune_text.specs.Steps.{lineStep, finished, lineAfter}
-use Rattle.tune_text.specs.declared.State.{State}
 use Rattle.tune_text.specs.Handed.{textOf}
+use Rattle.tune_text.specs.declared.State.{State}
 use Rattle.tune_text.proofs.Laws.Cutting.{index-from}
 
 -- what is left has no newline, and is not empty: its line is bad

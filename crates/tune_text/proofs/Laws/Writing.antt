@@ -7,10 +7,10 @@ use lib.ListN.{length, take, drop, replicate, length-append, length-replicate, l
 use lib.Seq.{take-all, take-length, take-append-seam, drop-at}
 use Rattle.rules.specs.declared.Cause.the-variants.{Settled, Budget}
 use Rattle.tune_text.specs.Lines.{endAnd}
+use Rattle.tune_text.specs.Handed.{textOf, written, Room}
 use Rattle.tune_text.specs.declared.Ending.{Ending}
 use Rattle.tune_text.specs.declared.Ending.the-variants.{Waiting, Because}
 use Rattle.tune_text.specs.declared.Text.{Text}
-use Rattle.tune_text.specs.Handed.{textOf, written, Room}
 
 -- a line that is handed over is written
 pub written-text : (xs : List ℕ) → written (textOf xs) ≡ xs

@@ -1,5 +1,8 @@
+use Prim.Native.Nat.{_<_}
+use lib.ListN.{length}
 use borrow.Author.Tests.{le-leb, lt-leb}
 use borrow.Author.Needs.{needs}
+use Rattle.tune_text.specs.Transcript.{longest}
 use Rattle.tune_text.specs.Steps.{stepping}
 use Rattle.tune_text.proofs.step.Statement.{statement}
 use Rattle.tune_text.proofs.step.Tie as tie
@@ -24,7 +27,8 @@ returns-2 : tie.Need-returns-2
 unfolding stepping
 returns-2 c =
     let d = c .before .before .before in
-    rw (← d .before .stage-done .ensures, d .if1 .left, lt-leb _ _ (c .before .before .if2 .taken), c .finish .ensures, c .before .bad .ensures)
+    let long : longest < length (d .before .before .before .before .before .args .input .now) = c .before .before .if2 .taken in
+    rw (← d .before .stage-done .ensures, d .if1 .left, lt-leb _ _ long, c .finish .ensures, c .before .bad .ensures)
 
 is-over-requires : tie.Need-is-over-requires
 is-over-requires c κs = search needs

@@ -14,10 +14,10 @@ use lib.Seq.{take-suc-set, drop-set-lt, drop-drop, append-snoc}
 use borrow.Author.Tests.{eqb-true, eqb-false, eq-eqb, ne-eqb, not-true, not-false}
 use Rattle.bytes.specs.Bytes.{indexOf, slice}
 use Rattle.rules.proofs.Laws.Order.{le-or-lt}
+use Rattle.tune_text.specs.Handed.{numberOf, numbersOf}
 use Rattle.tune_text.specs.declared.Number.{Number}
 use Rattle.tune_text.specs.declared.Numbers.{Numbers}
 use Rattle.tune_text.specs.Fields.{space, cut, Form, form, isNumber, allNumbers, isLine, numberIn}
-use Rattle.tune_text.specs.Handed.{numberOf, numbersOf}
 use Rattle.tune_text.proofs.Laws.Cutting.{cut-next, cut-end, cut-some, number-test, number-well}
 use Rattle.tune_text.proofs.fields.read_numbers.Statement.{statement}
 use Rattle.tune_text.proofs.fields.read_numbers.Tie as tie

@@ -1,3 +1,4 @@
+use mathlib.Core.Path.{_≡_}
 use borrow.Author.Tests.{eq-eqb, ne-eqb}
 use borrow.Author.Needs.{needs}
 use Rattle.tune_text.specs.Reading.{searchEnd}
@@ -12,7 +13,10 @@ end-requires c κs = search needs
 
 returns : tie.Need-returns
 unfolding searchEnd
-returns c = rw (eq-eqb _ _ (c .before .if1 .taken), ← c .before .before .before .cause .ensures) (c .end .ensures)
+returns c =
+    let start = c .before .before .before .before in
+    let none : start .args .search .readings ≡ 0 = c .before .if1 .taken in
+    rw (eq-eqb (start .args .search .readings) 0 none, ← c .before .before .before .cause .ensures) (c .end .ensures)
 
 best-requires : tie.Need-best-requires
 best-requires c κs = search needs

@@ -5,9 +5,9 @@ use native.Mathlib.Omega.{arith}
 use borrow.Author.Needs.{needs}
 use lib.ListN.{length, take, length-append, length-take, length-drop}
 use lib.Seq.{length-take-le, take-all, take-at}
+use Rattle.tune_text.specs.Handed.{written}
 use Rattle.tune_text.proofs.steps.collect.Statement.{statement}
 use Rattle.tune_text.proofs.steps.collect.Tie as tie
-use Rattle.tune_text.specs.Handed.{written}
 
 -- a text has 192 bytes
 full : (c : tie.Start) → length (c .args .text .bytes) ≡ 192
