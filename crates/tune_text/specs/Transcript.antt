@@ -22,7 +22,7 @@ stopped p i (x ∷ xs) = badLine i
 abbrev pub unlessOver : Progress → List ℕ → List ℕ
 unlessOver p lines = cond (isDone (p .stage)) [] (cond (isOver (p .stage) (p .search)) (lastLine (p .stage) (p .search)) lines)
 
--- what is printed from line i on, the input being cut into its lines
+-- what is printed from line i on, the input being cut into its lines; a cut has a piece at least, so the first case never comes
 unfoldable pub told : Progress → ℕ → List (List ℕ) → List ℕ
 told p i [] = []
 told p i (line ∷ []) = unlessOver p (stopped p i line)

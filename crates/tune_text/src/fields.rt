@@ -3,7 +3,7 @@ use crate::Number;
 use crate::Numbers;
 ghost use mathlib.Core.Path.{_≡_};
 ghost use Prim.Native.Nat.{_^_, _≤_, _<_};
-ghost use Rattle.tune_text.specs.Fields.{digitOf, form};
+ghost use Rattle.tune_text.specs.Fields.{digitOf, form, whole, hexadecimal};
 ghost use Rattle.tune_text.specs.Handed.{numberOf, numbersOf};
 
 // The digit that a byte is, `0` to `9` or `a` to `f`; 16 for any other byte.
@@ -45,7 +45,7 @@ fn read_number(field: &[u8], base: u64, least: usize, most: usize) -> Number
 }
 
 // The numbers of a line that has k fields of least to most digits in this base, with one space between fields.
-pub(super) fn read_numbers(line: &[u8], base: u64, least: usize, most: usize, k: usize) -> Numbers
+fn read_numbers(line: &[u8], base: u64, least: usize, most: usize, k: usize) -> Numbers
     requires { ⌜ (1 < base) × (base ≤ 16) × (base ^ most ≤ 2 ^ 64) ⌝ }
     requires { ⌜ (0 < k) × (k ≤ 4) ⌝ }
     ensures { λ r. ⌜ r ≡ numbersOf (form base least most) k (now (line .entry)) ⌝ }
@@ -69,4 +69,19 @@ pub(super) fn read_numbers(line: &[u8], base: u64, least: usize, most: usize, k:
         i += 1;
     }
     Numbers { well: true, values }
+}
+
+// The numbers of a line of k whole numbers, of 1 to 10 decimal digits each.
+pub(super) fn whole_numbers(line: &[u8], k: usize) -> Numbers
+    requires { ⌜ (0 < k) × (k ≤ 4) ⌝ }
+    ensures { λ r. ⌜ r ≡ numbersOf whole k (now (line .entry)) ⌝ }
+{
+    read_numbers(line, 10, 1, 10, k)
+}
+
+// The numbers of a line of four floats, each by the 16 hexadecimal digits of its bits.
+pub(super) fn four_floats(line: &[u8]) -> Numbers
+    ensures { λ r. ⌜ r ≡ numbersOf hexadecimal 4 (now (line .entry)) ⌝ }
+{
+    read_numbers(line, 16, 16, 16, 4)
 }

@@ -45,7 +45,7 @@ fn end_with(progress: Progress, text: Text) -> Turn
 fn head_line(progress: Progress, i: u64, line: &[u8]) -> Turn
     ensures { λ r. ⌜ r ≡ turnOf (lineRead Head progress i (now (line .entry))) ⌝ }
 {
-    let numbers = fields::read_numbers(line, 10, 1, 10, 3);
+    let numbers = fields::whole_numbers(line, 3);
     if !numbers.well {
         let text = lines::bad(i);
         return end_with(progress, text);
@@ -93,7 +93,7 @@ fn with_axis(k: usize, axis: Axis, request: Request) -> Request
 fn axis_line(k: usize, progress: Progress, i: u64, line: &[u8]) -> Turn
     ensures { λ r. ⌜ r ≡ turnOf (lineRead (Axes k) progress i (now (line .entry))) ⌝ }
 {
-    let numbers = fields::read_numbers(line, 16, 16, 16, 4);
+    let numbers = fields::four_floats(line);
     if !numbers.well {
         let text = lines::bad(i);
         return end_with(progress, text);
@@ -145,7 +145,7 @@ fn tell(progress: Progress, cost: u64) -> Turn
 fn cost_line(progress: Progress, i: u64, line: &[u8]) -> Turn
     ensures { λ r. ⌜ r ≡ turnOf (lineRead Costs progress i (now (line .entry))) ⌝ }
 {
-    let numbers = fields::read_numbers(line, 10, 1, 10, 1);
+    let numbers = fields::whole_numbers(line, 1);
     if !numbers.well {
         let text = lines::bad(i);
         return end_with(progress, text);

@@ -9,8 +9,8 @@ use Rattle.tune_text.proofs.Laws.Reading.{is-line, number-read, past-ei
 use Rattle.tune_text.proofs.reading.axis_line.Statement.{statement}
 use Rattle.tune_text.proofs.reading.axis_line.Tie as tie
 
-read-numbers-requires : tie.Need-read-numbers-requires
-read-numbers-requires c κs = search needs
+four-floats-requires : tie.Need-four-floats-requires
+four-floats-requires c κs = search needs
 
 bad-requires : tie.Need-bad-requires
 bad-requires c κs = search needs
@@ -22,7 +22,7 @@ returns : tie.Need-returns
 unfolding lineRead
 returns c =
     let arm = c .before .before in
-    rw (is-line hexadecimal 4 _ (arm .before .before .read-numbers .ensures) (not-true _ (arm .if1 .taken)), ← c .before .bad .ensures) (c .end-with .ensures)
+    rw (is-line hexadecimal 4 _ (arm .before .before .four-floats .ensures) (not-true _ (arm .if1 .taken)), ← c .before .bad .ensures) (c .end-with .ensures)
 
 axis-from-requires : tie.Need-axis-from-requires
 axis-from-requires c κs = search needs
@@ -45,8 +45,8 @@ returns-2 c =
     let arm = c .before .before .before .before .before .before .before in
     let call = arm .before .before in
     let a = call .before .before .args in
-    let h = is-line hexadecimal 4 (a .line .now) (call .read-numbers .ensures) (not-false _ (arm .if1 .left)) in
-    let v = number-read hexadecimal 4 (a .line .now) (call .read-numbers .ensures) h in
+    let h = is-line hexadecimal 4 (a .line .now) (call .four-floats .ensures) (not-false _ (arm .if1 .left)) in
+    let v = number-read hexadecimal 4 (a .line .now) (call .four-floats .ensures) h in
     rw (h, ← v 0, ← v 1, ← v 2, ← v 3, ← c .before .before .axis-from .ensures, ← c .before .with-axis .ensures, ← add-one (a .k)) (c .furnish .ensures)
 
 -- a ninth axis line, which no step reads: the request keeps its eight axis records
@@ -57,7 +57,7 @@ returns-3 c =
     let call = arm .before .before in
     let start = call .before .before in
     let a = start .args in
-    let h = is-line hexadecimal 4 (a .line .now) (call .read-numbers .ensures) (not-false _ (arm .if1 .left)) in
+    let h = is-line hexadecimal 4 (a .line .now) (call .four-floats .ensures) (not-false _ (arm .if1 .left)) in
     let eight : length (a .progress .request .axes) ≡ 8 = simp length-map at (start .good .1 .0 .1 .1 .1 .0 .1 .1 .1 .1 .1 .0 .1 .0 .1) in
     rw (h, past-eight _ _ (a .progress .request) _ (c .before .if2 .left) eight) (c .furnish2 .ensures)
 
@@ -65,7 +65,7 @@ pub axis-line-spec : {M : Type 1} → statement M
 axis-line-spec =
     tie.close
     (tie.spec
-    read-numbers-requires
+    four-floats-requires
     bad-requires
     end-with-requires
     returns

@@ -6,8 +6,8 @@ use Rattle.tune_text.proofs.Laws.Reading.{is-line, number-read}
 use Rattle.tune_text.proofs.reading.head_line.Statement.{statement}
 use Rattle.tune_text.proofs.reading.head_line.Tie as tie
 
-read-numbers-requires : tie.Need-read-numbers-requires
-read-numbers-requires c κs = search needs
+whole-numbers-requires : tie.Need-whole-numbers-requires
+whole-numbers-requires c κs = search needs
 
 bad-requires : tie.Need-bad-requires
 bad-requires c κs = search needs
@@ -19,7 +19,7 @@ returns : tie.Need-returns
 unfolding lineRead
 returns c =
     let arm = c .before .before in
-    rw (is-line whole 3 _ (arm .before .before .read-numbers .ensures) (not-true _ (arm .if1 .taken)), ← c .before .bad .ensures) (c .end-with .ensures)
+    rw (is-line whole 3 _ (arm .before .before .whole-numbers .ensures) (not-true _ (arm .if1 .taken)), ← c .before .bad .ensures) (c .end-with .ensures)
 
 no-axes-requires : tie.Need-no-axes-requires
 no-axes-requires c κs = search needs
@@ -42,15 +42,15 @@ returns-2 c =
     let arm = c .before .before .before .before in
     let call = arm .before .before in
     let line = call .before .before .args .line .now in
-    let h = is-line whole 3 line (call .read-numbers .ensures) (not-false _ (arm .if1 .left)) in
-    let v = number-read whole 3 line (call .read-numbers .ensures) h in
+    let h = is-line whole 3 line (call .whole-numbers .ensures) (not-false _ (arm .if1 .left)) in
+    let v = number-read whole 3 line (call .whole-numbers .ensures) h in
     rw (h, ← v 0, ← v 1, ← v 2, ← c .before .no-axes .ensures) (c .furnish .ensures)
 
 pub head-line-spec : {M : Type 1} → statement M
 head-line-spec =
     tie.close
     (tie.spec
-    read-numbers-requires
+    whole-numbers-requires
     bad-requires
     end-with-requires
     returns
