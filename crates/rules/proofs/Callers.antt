@@ -49,7 +49,8 @@ accepted-not-12 e = let z : _≡_ {A = ℕ} 0 1 = cc in omega arith
 not-12 : (r : Refusal) → (eqb (numberOf r) 12 ≡ false) → Not12 (Refused r)
 not-12 r d e = true≢false (sym (ap (λ (v : Verdict). eqb (numberIn v) 12) e) ∙ d)
 
-check-elim : (P : Verdict → Type 0) (b : Bool) {r : Refusal} {v : Verdict} → (b ≡ true → P v) → (b ≡ false → P (Refused r)) → P (check b r v)
+-- what holds where a check passes and where it refuses holds of it
+pub check-elim : (P : Verdict → Type 0) (b : Bool) {r : Refusal} {v : Verdict} → (b ≡ true → P v) → (b ≡ false → P (Refused r)) → P (check b r v)
 check-elim P true f g = f refl
 check-elim P false f g = g refl
 
@@ -105,11 +106,13 @@ joins-number o h k c e = simp and-eq-true-iff at e .0 .1
 
 -- ---- one call more at the end of a list
 
-after-snoc : (s : Search) (cs : List Call) (c : Call) → after s (cs ++ c ∷ []) ≡ after1 (after s cs) c
+-- of the search
+pub after-snoc : (s : Search) (cs : List Call) (c : Call) → after s (cs ++ c ∷ []) ≡ after1 (after s cs) c
 unfolding after
 after-snoc s [] c = refl
 after-snoc s (d ∷ cs) c = after-snoc (after1 s d) cs c
 
+-- of the history
 history-snoc : (o : Search) (h : List ℕ) (cs : List Call) (c : Call) → historyFrom o h (cs ++ c ∷ []) ≡ history1 o (historyFrom o h cs) c
 unfolding historyFrom
 history-snoc o h [] c = refl

@@ -1,4 +1,5 @@
 -- Theorems that no single function owns.
 pub mod Laws
 pub mod Whole
+pub mod Carried
 pub mod Worked

@@ -5,4 +5,5 @@ pub mod Reading
 pub mod Transcript
 pub mod Handed
 pub mod Steps
+pub mod Carried
 pub mod Worked

@@ -59,7 +59,7 @@ threshold-sound (Moved e) h = refl
 threshold-sound (Size e) h = refl
 
 -- an answer carries the verdict that it is made by
-openedBy-verdict : (v : Verdict) (s : Search) → openedBy v s .verdict ≡ v
+pub openedBy-verdict : (v : Verdict) (s : Search) → openedBy v s .verdict ≡ v
 openedBy-verdict Accepted s = refl
 openedBy-verdict (Refused r) s = refl
 
