@@ -9,11 +9,11 @@ use crate::Stage;
 use crate::Text;
 use crate::Turn;
 use rules::Axis;
-use rules::Search;
 use rules::Verdict;
 ghost use mathlib.Core.Path.{_≡_};
 ghost use Prim.Native.Nat.{_<_};
-ghost use Rattle.tune_text.specs.Reading.{axisOf, at as Reading·at, costTold, lineRead, withAxis};
+ghost use Rattle.tune_text.specs.Lines.{badLine};
+ghost use Rattle.tune_text.specs.Reading.{axisOf, at as Reading·at, costTold, ends, lineRead, withAxis};
 ghost use Rattle.tune_text.specs.declared.Stage.the-variants.{Head, Axes, Costs};
 ghost use Rattle.tune_text.specs.Handed.{endedWith, turnOf};
 
@@ -41,14 +41,21 @@ fn end_with(progress: Progress, text: Text) -> Turn
     }
 }
 
+// Line i is malformed.
+fn bad_line(progress: Progress, i: u64) -> Turn
+    ensures { λ r. ⌜ r ≡ turnOf (ends progress (badLine i)) ⌝ }
+{
+    let text = lines::bad(i);
+    end_with(progress, text)
+}
+
 // The first line.
 fn head_line(progress: Progress, i: u64, line: &[u8]) -> Turn
     ensures { λ r. ⌜ r ≡ turnOf (lineRead Head progress i (now (line .entry))) ⌝ }
 {
     let numbers = fields::whole_numbers(line, 3);
     if !numbers.well {
-        let text = lines::bad(i);
-        return end_with(progress, text);
+        return bad_line(progress, i);
     }
     let values = numbers.values;
     let search = progress.search;
@@ -95,8 +102,7 @@ fn axis_line(k: usize, progress: Progress, i: u64, line: &[u8]) -> Turn
 {
     let numbers = fields::four_floats(line);
     if !numbers.well {
-        let text = lines::bad(i);
-        return end_with(progress, text);
+        return bad_line(progress, i);
     }
     let values = numbers.values;
     let search = progress.search;
@@ -147,8 +153,7 @@ fn cost_line(progress: Progress, i: u64, line: &[u8]) -> Turn
 {
     let numbers = fields::whole_numbers(line, 1);
     if !numbers.well {
-        let text = lines::bad(i);
-        return end_with(progress, text);
+        return bad_line(progress, i);
     }
     let values = numbers.values;
     tell(progress, values[0])

@@ -12,17 +12,14 @@ use Rattle.tune_text.proofs.reading.axis_line.Tie as tie
 four-floats-requires : tie.Need-four-floats-requires
 four-floats-requires c κs = search needs
 
-bad-requires : tie.Need-bad-requires
-bad-requires c κs = search needs
-
-end-with-requires : tie.Need-end-with-requires
-end-with-requires c κs = search needs
+bad-line-requires : tie.Need-bad-line-requires
+bad-line-requires c κs = search needs
 
 returns : tie.Need-returns
 unfolding lineRead
 returns c =
-    let arm = c .before .before in
-    rw (is-line hexadecimal 4 _ (arm .before .before .four-floats .ensures) (not-true _ (arm .if1 .taken)), ← c .before .bad .ensures) (c .end-with .ensures)
+    let arm = c .before in
+    rw (is-line hexadecimal 4 _ (arm .before .before .four-floats .ensures) (not-true _ (arm .if1 .taken))) (c .bad-line .ensures)
 
 axis-from-requires : tie.Need-axis-from-requires
 axis-from-requires c κs = search needs
@@ -66,8 +63,7 @@ axis-line-spec =
     tie.close
     (tie.spec
     four-floats-requires
-    bad-requires
-    end-with-requires
+    bad-line-requires
     returns
     axis-from-requires
     with-axis-requires

@@ -9,17 +9,14 @@ use Rattle.tune_text.proofs.reading.cost_line.Tie as tie
 whole-numbers-requires : tie.Need-whole-numbers-requires
 whole-numbers-requires c κs = search needs
 
-bad-requires : tie.Need-bad-requires
-bad-requires c κs = search needs
-
-end-with-requires : tie.Need-end-with-requires
-end-with-requires c κs = search needs
+bad-line-requires : tie.Need-bad-line-requires
+bad-line-requires c κs = search needs
 
 returns : tie.Need-returns
 unfolding lineRead
 returns c =
-    let arm = c .before .before in
-    rw (is-line whole 1 _ (arm .before .before .whole-numbers .ensures) (not-true _ (arm .if1 .taken)), ← c .before .bad .ensures) (c .end-with .ensures)
+    let arm = c .before in
+    rw (is-line whole 1 _ (arm .before .before .whole-numbers .ensures) (not-true _ (arm .if1 .taken))) (c .bad-line .ensures)
 
 array-read-tell : tie.Need-array-read-tell
 array-read-tell c = search needs
@@ -41,8 +38,7 @@ cost-line-spec =
     tie.close
     (tie.spec
     whole-numbers-requires
-    bad-requires
-    end-with-requires
+    bad-line-requires
     returns
     array-read-tell
     tell-requires

@@ -9,29 +9,26 @@ use Rattle.tune_text.proofs.reading.head_line.Tie as tie
 whole-numbers-requires : tie.Need-whole-numbers-requires
 whole-numbers-requires c κs = search needs
 
-bad-requires : tie.Need-bad-requires
-bad-requires c κs = search needs
-
-end-with-requires : tie.Need-end-with-requires
-end-with-requires c κs = search needs
+bad-line-requires : tie.Need-bad-line-requires
+bad-line-requires c κs = search needs
 
 returns : tie.Need-returns
 unfolding lineRead
 returns c =
-    let arm = c .before .before in
-    rw (is-line whole 3 _ (arm .before .before .whole-numbers .ensures) (not-true _ (arm .if1 .taken)), ← c .before .bad .ensures) (c .end-with .ensures)
+    let arm = c .before in
+    rw (is-line whole 3 _ (arm .before .before .whole-numbers .ensures) (not-true _ (arm .if1 .taken))) (c .bad-line .ensures)
 
 no-axes-requires : tie.Need-no-axes-requires
 no-axes-requires c κs = search needs
 
-array-read-t13 : tie.Need-array-read-t13
-array-read-t13 c = search needs
+array-read-t12 : tie.Need-array-read-t12
+array-read-t12 c = search needs
 
-array-read-t17 : tie.Need-array-read-t17
-array-read-t17 c = search needs
+array-read-t16 : tie.Need-array-read-t16
+array-read-t16 c = search needs
 
-array-read-t20 : tie.Need-array-read-t20
-array-read-t20 c = search needs
+array-read-t19 : tie.Need-array-read-t19
+array-read-t19 c = search needs
 
 furnish-requires : tie.Need-furnish-requires
 furnish-requires c κs = search needs
@@ -51,12 +48,11 @@ head-line-spec =
     tie.close
     (tie.spec
     whole-numbers-requires
-    bad-requires
-    end-with-requires
+    bad-line-requires
     returns
     no-axes-requires
-    array-read-t13
-    array-read-t17
-    array-read-t20
+    array-read-t12
+    array-read-t16
+    array-read-t19
     furnish-requires
     returns-2)
