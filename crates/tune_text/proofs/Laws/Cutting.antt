@@ -13,16 +13,6 @@ use Rattle.tune_text.specs.Handed.{numberOf}
 
 -- ---- where the first byte b is
 
--- its index is at most the length
-pub index-le : (b : ℕ) (xs : List ℕ) → indexOf b xs ≤ length xs
-unfolding indexOf indexAfter
-index-le b [] = omega arith
-index-le b (x ∷ xs) = go (eqb x b) (index-le b xs)
-  where
-    go : (t : Bool) → indexOf b xs ≤ length xs → indexAfter t (indexOf b xs) ≤ length (x ∷ xs)
-    go true h = omega arith
-    go false h = omega arith
-
 -- a text with b in it: the first piece is what stands before the first b, and the others are those of what stands after it
 pub cut-line : (b : ℕ) (xs : List ℕ) → indexOf b xs < length xs → cut b xs ≡ take (indexOf b xs) xs ∷ cut b (drop (suc (indexOf b xs)) xs)
 unfolding indexOf indexAfter cut

@@ -19,7 +19,7 @@ use Rattle.tune_text.specs.Lines.{trim, decimal, coordinates}
 -- ---- lengths
 
 -- the last k digits are k
-pub length-digits : (b k n : ℕ) → length (digits b k n) ≡ k
+length-digits : (b k n : ℕ) → length (digits b k n) ≡ k
 length-digits b zero n = refl
 length-digits b (suc k) n = simp (length-append, length-digits b k) (omega arith)
 
