@@ -1,6 +1,5 @@
 use super::place::blank;
 use super::stop::Piece;
-use super::stop::met;
 use rules::Counts;
 use rules::Phase;
 use rules::Search;
@@ -10,9 +9,10 @@ ghost use mathlib.Core.Path.{_≡_};
 ghost use Prim.Native.Nat.{_≤_, _<_};
 ghost use Rattle.rules.specs.Accept.{noted, counted, opened, probedOnce, withPhase, waiting, testedPhase};
 ghost use Rattle.rules.specs.Calls.{isEnded};
-ghost use Rattle.engine.specs.Places.{Capped};
-ghost use Rattle.engine.specs.Ready.{Few, Ready};
-ghost use Rattle.engine.specs.Finish.{pieceOf, finishedBy, changedTo};
+ghost use Rattle.rules.specs.Simplex.{pack};
+ghost use mathlib.Core.List.{[]};
+ghost use Rattle.engine.specs.Ready.{Few};
+ghost use Rattle.engine.specs.Finish.{pieceOf, changedTo};
 
 // One reading more, with the best after it: replaced only by a lower one.
 pub(super) fn noted(s: Search, v: Vertex) -> Search
@@ -150,14 +150,12 @@ fn tested_phase(met: bool) -> Phase
     }
 }
 
-// The end of a piece: the vertices stand, the piece is counted, the rule is tested.
-pub(super) fn finish(s: Search, piece: Piece, movement: f64, standing: Simplex) -> Search
-    requires { ⌜ (Ready s) × Capped (standing .costs) ⌝ }
-    ensures { λ r. ⌜ r ≡ finishedBy piece movement standing s ⌝ }
+// The end of a piece: the vertices stand, the piece is counted, and a met rule begins a probe round.
+pub(super) fn finish(s: Search, piece: Piece, met: bool, standing: Simplex) -> Search
+    requires { ⌜ Few (s .counts) ⌝ }
+    ensures { λ r. ⌜ r ≡ changedTo (testedPhase met) standing (pack []) (s .center) (counted (pieceOf piece) (s .counts)) s ⌝ }
 {
-    let setup = s.setup;
-    let rule = setup.rule;
-    let phase = tested_phase(met(rule, setup.n, piece, movement, standing));
+    let phase = tested_phase(met);
     let before = s.counts;
     let counts = counted(piece, before);
     let gathered = blank();

@@ -14,6 +14,7 @@ use rules::Vertex;
 
 mod answer;
 mod change;
+mod decide;
 mod float;
 mod insert;
 mod opening;
@@ -64,8 +65,14 @@ pub fn ask(search: Search) -> Asked
     let verdict = sound::ask_verdict(search);
     match verdict {
         Verdict::Accepted => {
+            let setup = search.setup;
+            let standing = search.standing;
+            let points = standing.points;
+            let center = search.center;
+            let known = search.best;
+            let best = known.point;
             let phase = search.phase;
-            let point = point::trial_in(search, phase);
+            let point = point::trial(setup, &points, &center, &best, phase);
             Asked {
                 verdict: Verdict::Accepted,
                 number: search.readings + 1,

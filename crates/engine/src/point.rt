@@ -2,6 +2,7 @@ use super::float::clamp;
 use super::float::moved;
 use super::float::whole;
 use rules::Axis;
+use rules::Coefficients;
 use rules::Phase;
 use rules::Search;
 use rules::Setup;
@@ -13,6 +14,7 @@ ghost use Rattle.rules.specs.Binary64.{0ᶠ, clamp};
 ghost use Rattle.rules.specs.Simplex.{point, firstOf};
 ghost use Rattle.rules.specs.Trial.{move, stepped, probeStep, centroid, coordinate, asked};
 ghost use Rattle.engine.specs.Ready.{Fits};
+ghost use Rattle.engine.specs.Coordinate.{coordinateBy};
 
 // c on axis a: the sum of places 1 to n in place order, divided by n.
 fn centroid(points: &[f64; 72], n: usize, a: usize) -> f64
@@ -69,22 +71,20 @@ fn beyond(x: Axis, c: f64, w: f64, alpha: f64, k: f64) -> f64
     moved(x, c, k, r, c)
 }
 
-// Coordinate a of the trial of each phase. An ended search has none.
+// Coordinate a of the trial of each phase, by the axis count, that axis and the coefficients. An ended search has none.
 fn coordinate(
-    setup: Setup,
+    n: usize,
+    x: Axis,
+    k: Coefficients,
     points: &[f64; 72],
     center: &[f64; 8],
     best: &[f64; 8],
     phase: Phase,
     a: usize,
 ) -> f64
-    requires { ⌜ (1 ≤ setup .n) × (setup .n ≤ 8) × (a < 8) × Fits (setup .n) phase ⌝ }
-    ensures { λ r. ⌜ r ≡ coordinate setup (now (points .entry)) (now (center .entry)) (now (best .entry)) phase a ⌝ }
+    requires { ⌜ (1 ≤ n) × (n ≤ 8) × (a < 8) × Fits n phase ⌝ }
+    ensures { λ r. ⌜ r ≡ coordinateBy n x k (now (points .entry)) (now (center .entry)) (now (best .entry)) phase a ⌝ }
 {
-    let n = setup.n;
-    let axes = setup.axes;
-    let x = axes[a];
-    let k = setup.coefficients;
     match phase {
         Phase::Building(i) => built(x, center[a], i == a + 1),
         Phase::Reflecting => {
@@ -108,25 +108,42 @@ fn coordinate(
     }
 }
 
-// The point that the search would ask in this phase, axis by axis.
+// The point asked in this phase, axis by axis, by the parts of a search that it depends on.
+pub(super) fn trial(
+    setup: Setup,
+    points: &[f64; 72],
+    center: &[f64; 8],
+    best: &[f64; 8],
+    phase: Phase,
+) -> [f64; 8]
+    requires { ⌜ (1 ≤ setup .n) × (setup .n ≤ 8) × Fits (setup .n) phase ⌝ }
+    ensures { λ r. ⌜ r ≡ point (setup .n) (coordinate setup (now (points .entry)) (now (center .entry)) (now (best .entry)) phase) ⌝ }
+{
+    let n = setup.n;
+    let axes = setup.axes;
+    let k = setup.coefficients;
+    let mut out = [0.0f64; 8];
+    let mut a = 0;
+    while a < n {
+        let x = axes[a];
+        out[a] = coordinate(n, x, k, points, center, best, phase, a);
+        a += 1;
+    }
+    out
+}
+
+// The point that the search would ask in this phase.
 pub(super) fn trial_in(search: Search, phase: Phase) -> [f64; 8]
     requires { ⌜ (1 ≤ search .setup .n) × (search .setup .n ≤ 8) × Fits (search .setup .n) phase ⌝ }
     ensures { λ r. ⌜ r ≡ point (search .setup .n) (asked search phase) ⌝ }
 {
     let setup = search.setup;
-    let n = setup.n;
     let standing = search.standing;
     let points = standing.points;
     let center = search.center;
     let known = search.best;
     let best = known.point;
-    let mut out = [0.0f64; 8];
-    let mut a = 0;
-    while a < n {
-        out[a] = coordinate(setup, &points, &center, &best, phase, a);
-        a += 1;
-    }
-    out
+    trial(setup, &points, &center, &best, phase)
 }
 
 // The first n coordinates of a point, zero after them.

@@ -4,14 +4,24 @@ use rules::Phase;
 use rules::Refusal;
 use rules::Rule;
 use rules::Search;
-use rules::Simplex;
 use rules::Verdict;
 ghost use mathlib.Core.Path.{_≡_};
-ghost use mathlib.Core.Bool.{_&&_};
 ghost use Prim.Native.Nat.{_≤_};
-ghost use lib.Dec.{leb};
-ghost use Rattle.rules.specs.Simplex.{unpack};
-ghost use Rattle.rules.specs.Calls.{maxCost, soundPhase, gatheredIn, standingOf, gatheredOf, inOrder, allCosts, soundRule, soundCounts, sound, askVerdict, tellVerdict, bestVerdict};
+ghost use Rattle.engine.specs.HeldBy.{heldOf, placesOf, soundHeld, soundBy};
+ghost use Rattle.rules.specs.Calls.{soundPhase, gatheredIn, inOrder, allCosts, soundRule, soundCounts, askVerdict, tellVerdict, bestVerdict};
+
+// What refusal 12 tests of a search: its places by their costs, its best by its cost.
+struct Held {
+    n: usize,
+    budget: u64,
+    rule: Rule,
+    phase: Phase,
+    counts: Counts,
+    readings: u64,
+    costs: [u64; 9],
+    others: [u64; 9],
+    best: u64,
+}
 
 // Whether no cost is above the largest.
 fn all_costs(costs: [u64; 9]) -> bool
@@ -28,12 +38,11 @@ fn all_costs(costs: [u64; 9]) -> bool
     true
 }
 
-// Whether the first m places are in cost order.
-fn in_order(s: Simplex, m: usize) -> bool
+// Whether the first m places, by their costs, are in cost order.
+fn in_order(costs: [u64; 9], m: usize) -> bool
     requires { ⌜ m ≤ 9 ⌝ }
-    ensures { λ r. ⌜ r ≡ inOrder (unpack m s) ⌝ }
+    ensures { λ r. ⌜ r ≡ inOrder (placesOf m costs) ⌝ }
 {
-    let costs = s.costs;
     let mut i = 1;
     while i < m {
         if costs[i - 1] <= costs[i] {
@@ -100,42 +109,63 @@ fn sound_counts(budget: u64, c: Counts) -> bool
         && c.unfinished <= budget
 }
 
-// Whether the vertices that the search holds are in order, and its costs in range.
-fn sound_held(s: Search) -> bool
-    requires { ⌜ (s .setup .n ≤ 8) × (gatheredIn (s .phase) ≤ 9) ⌝ }
-    ensures { λ r. ⌜ r ≡ (inOrder (standingOf s) && inOrder (gatheredOf s) && allCosts (s .standing .costs) && allCosts (s .gathered .costs) && leb (s .best .cost) maxCost) ⌝ }
+// What refusal 12 tests of a search.
+fn held_by(s: Search) -> Held
+    ensures { λ r. ⌜ r ≡ heldOf s ⌝ }
 {
     let setup = s.setup;
-    let counts = s.counts;
+    let rule = setup.rule;
     let phase = s.phase;
+    let counts = s.counts;
     let standing = s.standing;
     let gathered = s.gathered;
     let best = s.best;
     let costs = standing.costs;
     let others = gathered.costs;
-    (counts.builds == 0 || in_order(standing, setup.n + 1))
-        && in_order(gathered, gathered_in(phase))
+    Held {
+        n: setup.n,
+        budget: setup.budget,
+        rule,
+        phase,
+        counts,
+        readings: s.readings,
+        costs,
+        others,
+        best: best.cost,
+    }
+}
+
+// Whether the vertices that the search holds are in order, and its costs in range.
+fn sound_held(h: Held) -> bool
+    requires { ⌜ (h .n ≤ 8) × (gatheredIn (h .phase) ≤ 9) ⌝ }
+    ensures { λ r. ⌜ r ≡ soundHeld h ⌝ }
+{
+    let counts = h.counts;
+    let phase = h.phase;
+    let costs = h.costs;
+    let others = h.others;
+    (counts.builds == 0 || in_order(costs, h.n + 1))
+        && in_order(others, gathered_in(phase))
         && all_costs(costs)
         && all_costs(others)
-        && best.cost <= 16777215
+        && h.best <= 16777215
 }
 
 // None of the causes of refusal 12, for a search that has not ended.
-fn sound(s: Search) -> bool
-    ensures { λ r. ⌜ r ≡ sound s ⌝ }
+fn sound(h: Held) -> bool
+    ensures { λ r. ⌜ r ≡ soundBy h ⌝ }
 {
-    let setup = s.setup;
-    let counts = s.counts;
-    let phase = s.phase;
-    let rule = setup.rule;
-    1 <= setup.n
-        && setup.n <= 8
-        && s.readings < setup.budget
-        && sound_counts(setup.budget, counts)
-        && setup.budget <= 1000000
+    let counts = h.counts;
+    let phase = h.phase;
+    let rule = h.rule;
+    1 <= h.n
+        && h.n <= 8
+        && h.readings < h.budget
+        && sound_counts(h.budget, counts)
+        && h.budget <= 1000000
         && sound_rule(rule)
-        && sound_phase(setup.n, counts.builds, phase)
-        && sound_held(s)
+        && sound_phase(h.n, counts.builds, phase)
+        && sound_held(h)
 }
 
 // The refusals of ask: 12, 8. An ended search never meets 12.
@@ -145,7 +175,7 @@ pub(super) fn ask_verdict(s: Search) -> Verdict
     let phase = s.phase;
     if is_ended(phase) {
         Verdict::Refused(Refusal::SearchEnded)
-    } else if sound(s) {
+    } else if sound(held_by(s)) {
         Verdict::Accepted
     } else {
         Verdict::Refused(Refusal::Damaged)
@@ -160,7 +190,7 @@ pub(super) fn tell_verdict(s: Search, number: u64, cost: u64) -> Verdict
     if is_ended(phase) {
         return Verdict::Refused(Refusal::SearchEnded);
     }
-    if !sound(s) {
+    if !sound(held_by(s)) {
         return Verdict::Refused(Refusal::Damaged);
     }
     if number != s.readings + 1 {
@@ -179,7 +209,7 @@ pub(super) fn best_verdict(s: Search) -> Verdict
 {
     let phase = s.phase;
     if !is_ended(phase) {
-        if !sound(s) {
+        if !sound(held_by(s)) {
             return Verdict::Refused(Refusal::Damaged);
         }
     }

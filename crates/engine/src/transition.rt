@@ -6,6 +6,9 @@ use super::change::noted;
 use super::change::probed_once;
 use super::change::waiting;
 use super::change::with_phase;
+use super::decide::Decision;
+use super::decide::decided;
+use super::decide::kept;
 use super::insert::inserted;
 use super::place::blank;
 use super::place::place_at;
@@ -13,22 +16,24 @@ use super::place::point_at;
 use super::point::trial_in;
 use super::stop::Piece;
 use super::stop::distance;
+use super::stop::met;
 use rules::Cause;
 use rules::Phase;
 use rules::Search;
-use rules::Side;
 use rules::Vertex;
 ghost use mathlib.Core.Path.{_≡_};
 ghost use mathlib.Core.List.{map};
 ghost use Prim.Native.Nat.{_+_, _≤_, _<_};
 ghost use lib.ListN.{drop};
+ghost use lib.Dec.{eqb};
 ghost use Rattle.rules.specs.Binary64.{0ᶠ};
 ghost use Rattle.rules.specs.Simplex.{unpack, pointOf};
 ghost use Rattle.rules.specs.Stop.{movement};
 ghost use Rattle.rules.specs.Calls.{maxCost};
-ghost use Rattle.rules.specs.Accept.{taken, firstOpen, builtOn, reflectedOn, expandedOn, shrinking, wins, contractedOn, shrunkPoints, shrunkOn, probedOn, advanced, budgeted, accept};
+ghost use Rattle.rules.specs.Accept.{taken, firstOpen, builtOn, shrinking, shrunkPoints, shrunkOn, probedOn, advanced, spentPhase, budgeted, accept};
 ghost use Rattle.engine.specs.Ready.{Fits, Ready};
 ghost use Rattle.engine.specs.Finish.{pieceOf};
+ghost use Rattle.engine.specs.Decide.{Allowed, actedOn};
 
 // v replaces the vertex at place n + 1.
 fn taken(s: Search, piece: Piece, v: Vertex) -> Search
@@ -42,7 +47,10 @@ fn taken(s: Search, piece: Piece, v: Vertex) -> Search
     let old = point_at(&points, n);
     let new = v.point;
     let movement = distance(&old, &new, 0.0, n);
-    finish(s, piece, movement, inserted(standing, n, v))
+    let next = inserted(standing, n, v);
+    let rule = setup.rule;
+    let met = met(rule, n, piece, movement, next);
+    finish(s, piece, met, next)
 }
 
 // What trial i of a build adds to the open readings: all but the very first count.
@@ -61,63 +69,13 @@ fn built_on(s: Search, i: usize, v: Vertex) -> Search
     let before = s.gathered;
     let gathered = inserted(before, i, v);
     if i == setup.n {
-        finish(s, Piece::Build, 0.0, gathered)
+        let rule = setup.rule;
+        let met = met(rule, setup.n, Piece::Build, 0.0, gathered);
+        finish(s, Piece::Build, met, gathered)
     } else {
         let known = s.counts;
         let k = first_open(known.builds, i);
         gathering(s, Phase::Building(i + 1), gathered, k)
-    }
-}
-
-// r told: the four rows of the table.
-fn reflected_on(s: Search, v: Vertex) -> Search
-    requires { ⌜ (Ready s) × (v .cost ≤ maxCost) ⌝ }
-    ensures { λ r. ⌜ r ≡ reflectedOn v s ⌝ }
-{
-    let setup = s.setup;
-    let n = setup.n;
-    let standing = s.standing;
-    let costs = standing.costs;
-    let first = costs[0];
-    let last = costs[n - 1];
-    let worst = costs[n];
-    let cost = v.cost;
-    if cost < first {
-        waiting(s, Phase::Expanding(cost))
-    } else if cost < last {
-        taken(s, Piece::Reflection, v)
-    } else if cost < worst {
-        waiting(s, Phase::Contracting(Side::Outside, cost))
-    } else {
-        waiting(s, Phase::Contracting(Side::Inside, cost))
-    }
-}
-
-// e told: e is taken where it is lower than r, else r.
-fn expanded_on(s: Search, fr: u64, v: Vertex) -> Search
-    requires { ⌜ (Ready s) × (fr ≤ maxCost) × (v .cost ≤ maxCost) ⌝ }
-    ensures { λ r. ⌜ r ≡ expandedOn fr v s ⌝ }
-{
-    if v.cost < fr {
-        taken(s, Piece::Expansion, v)
-    } else {
-        let point = trial_in(s, Phase::Reflecting);
-        taken(s, Piece::Expansion, Vertex { point, cost: fr })
-    }
-}
-
-// Whether a contracted point is taken, by its side.
-fn wins(s: Search, side: Side, fr: u64, fc: u64) -> bool
-    requires { ⌜ s .setup .n ≤ 8 ⌝ }
-    ensures { λ r. ⌜ r ≡ wins side fr fc s ⌝ }
-{
-    let setup = s.setup;
-    let n = setup.n;
-    let standing = s.standing;
-    let costs = standing.costs;
-    match side {
-        Side::Outside => fc <= fr,
-        Side::Inside => fc < costs[n],
     }
 }
 
@@ -132,18 +90,6 @@ fn shrinking(s: Search) -> Search
     let first = place_at(&points, &costs, 0);
     let gathered = inserted(blank(), 0, first);
     gathering(s, Phase::Shrinking(1), gathered, 1)
-}
-
-// The outside or inside point told: it is taken, or a shrink begins.
-fn contracted_on(s: Search, side: Side, fr: u64, v: Vertex) -> Search
-    requires { ⌜ (Ready s) × (v .cost ≤ maxCost) ⌝ }
-    ensures { λ r. ⌜ r ≡ contractedOn side fr v s ⌝ }
-{
-    if wins(s, side, fr, v.cost) {
-        taken(s, Piece::Contraction, v)
-    } else {
-        shrinking(s)
-    }
 }
 
 // How far the vertices at places 2 to n + 1 move by a shrink.
@@ -176,7 +122,9 @@ fn shrunk_on(s: Search, j: usize, v: Vertex) -> Search
     let before = s.gathered;
     let gathered = inserted(before, j, v);
     if j == setup.n {
-        finish(s, Piece::Shrink, shrink_movement(s), gathered)
+        let rule = setup.rule;
+        let met = met(rule, setup.n, Piece::Shrink, shrink_movement(s), gathered);
+        finish(s, Piece::Shrink, met, gathered)
     } else {
         gathering(s, Phase::Shrinking(j + 1), gathered, 1)
     }
@@ -212,37 +160,55 @@ fn probed_on(s: Search, p: usize, b: u64, v: Vertex) -> Search
     }
 }
 
+// Does what was decided, with the vertex v that is kept, b being the best cost before the reading.
+fn acted(s: Search, decision: Decision, b: u64, v: Vertex) -> Search
+    requires { ⌜ (Ready s) × (Allowed (s .setup .n) decision) × (v .cost ≤ maxCost) ⌝ }
+    ensures { λ r. ⌜ r ≡ actedOn decision b v s ⌝ }
+{
+    match decision {
+        Decision::Build(i) => built_on(s, i, v),
+        Decision::Take(piece) => taken(s, piece, v),
+        Decision::Wait(phase) => waiting(s, phase),
+        Decision::Shrink => shrinking(s),
+        Decision::Shrunk(j) => shrunk_on(s, j, v),
+        Decision::Probe(p) => probed_on(s, p, b, v),
+        Decision::Nothing => s,
+    }
+}
+
 // The reading v told in each phase, b being the best cost before it.
 fn advanced(s: Search, phase: Phase, b: u64, v: Vertex) -> Search
     requires { ⌜ (Ready s) × (Fits (s .setup .n) phase) × (v .cost ≤ maxCost) ⌝ }
     ensures { λ r. ⌜ r ≡ advanced phase b v s ⌝ }
 {
-    match phase {
-        Phase::Building(i) => built_on(s, i, v),
-        Phase::Reflecting => reflected_on(s, v),
-        Phase::Expanding(fr) => expanded_on(s, fr, v),
-        Phase::Contracting(side, fr) => contracted_on(s, side, fr, v),
-        Phase::Shrinking(j) => shrunk_on(s, j, v),
-        Phase::Probing(p) => probed_on(s, p, b, v),
-        Phase::Ended(_) => s,
+    let decision = decided(s, phase, v.cost);
+    let brought = kept(s, phase, v);
+    acted(s, decision, b, brought)
+}
+
+// The phase with the budget tested: a spent one ends the search, unless the reading settled it.
+fn spent(readings: u64, budget: u64, phase: Phase) -> Phase
+    ensures { λ r. ⌜ r ≡ spentPhase (eqb readings budget) phase ⌝ }
+{
+    if readings == budget {
+        if is_ended(phase) {
+            phase
+        } else {
+            Phase::Ended(Cause::Budget)
+        }
+    } else {
+        phase
     }
 }
 
-// The budget tested: a spent one ends the search, unless the reading settled it.
+// The budget tested.
 fn budgeted(s: Search) -> Search
     ensures { λ r. ⌜ r ≡ budgeted s ⌝ }
 {
     let setup = s.setup;
     let phase = s.phase;
-    if s.readings == setup.budget {
-        if is_ended(phase) {
-            s
-        } else {
-            with_phase(s, Phase::Ended(Cause::Budget))
-        }
-    } else {
-        s
-    }
+    let last = spent(s.readings, setup.budget, phase);
+    with_phase(s, last)
 }
 
 // The search after an accepted reading.

@@ -1,16 +1,16 @@
 -- Laws of the test for a sound search: how the code comes to its outcome, and what an accepted call may take for granted. Assumes nothing.
-use mathlib.Core.Path.{_≡_, refl, ap}
-use mathlib.Core.Bool.{Bool, true, false, not, _||_, false≢true, and-eq-true-iff}
-use mathlib.Core.List.{List, [], _∷_}
+use mathlib.Core.Path.{_≡_, refl, sym, ap, _∙_}
+use mathlib.Core.Bool.{Bool, true, false, cond, not, _&&_, _||_, false≢true, and-assoc, and-eq-true-iff}
+use mathlib.Core.List.{List, [], _∷_, map, map-append}
 use mathlib.Core.Logic.{⊎-elim}
 use Prim.Native.Nat.{ℕ, zero, suc, suc-le-suc, _+_, _-_, _*_, _≤_, _<_}
 use native.Mathlib.Nat.{le-of-suc-le-suc, eq-or-lt-of-le}
 use native.Mathlib.Numerals.{add-one}
 use native.Mathlib.Omega.{arith}
 use lib.ListN.{length, getD}
-use lib.Dec.{leb}
+use lib.Dec.{leb, eqb}
 use borrow.Author.Tests.{leb-true, ltb-true, le-leb}
-use Rattle.rules.specs.Simplex.{blank, costOf, place, unpack, Ordered}
+use Rattle.rules.specs.Simplex.{upTo, blank, costOf, place, unpack, Ordered}
 use Rattle.rules.specs.Opening.{check}
 use Rattle.rules.specs.Calls.{maxCost, isEnded, soundPhase, gatheredIn, inOrder, allCosts, sound, undamaged, askVerdict, tellVerdict}
 use Rattle.rules.specs.declared.Simplex.{Simplex}
@@ -26,6 +26,7 @@ use Rattle.rules.proofs.Laws.Openings.{check-iff}
 use Rattle.rules.proofs.Laws.Order.{in-order, from-in-order, ordered-at}
 use Rattle.engine.specs.Places.{Capped}
 use Rattle.engine.specs.Ready.{Fits, Ready}
+use Rattle.engine.specs.HeldBy.{heldOf, placesOf, soundBy}
 use Rattle.engine.proofs.Laws.Placing.{length-unpack}
 
 -- ---- tests
@@ -82,6 +83,39 @@ module _ (s : Simplex) (m : ℕ) where
   falling k l h =
       refuted (inOrder (unpack m s))
       (λ e. let o = ordered-at (unpack m s) (k - 1) k (from-in-order (unpack m s) e) (omega arith) (omega (arith, length-unpack m s)) in omega (arith, o, cost-at k l, cost-at (k - 1) (omega arith)))
+
+-- ---- the test by what the code hands over
+
+-- a vertex without its point
+abbrev bare : Vertex → Vertex
+bare v = record { point = []; cost = v .cost }
+
+-- the order is that of the costs
+order-bare : (vs : List Vertex) → inOrder (map bare vs) ≡ inOrder vs
+unfolding inOrder
+order-bare [] = refl
+order-bare (x ∷ []) = refl
+order-bare (x ∷ y ∷ ys) = ap (λ (b : Bool). leb (x .cost) (y .cost) && b) (order-bare (y ∷ ys))
+
+-- a simplex's places and those of its costs differ in their points alone
+bare-places : (s : Simplex) (m : ℕ) → map bare (placesOf m (s .costs)) ≡ map bare (unpack m s)
+unfolding unpack upTo
+bare-places s zero = refl
+bare-places s (suc k) = rw (map-append bare (placesOf k (s .costs)) _, map-append bare (unpack k s) _, bare-places s k)
+
+-- so they are in order alike
+order-by : (s : Simplex) (m : ℕ) → inOrder (placesOf m (s .costs)) ≡ inOrder (unpack m s)
+order-by s m = sym (order-bare (placesOf m (s .costs))) ∙ ap inOrder (bare-places s m) ∙ order-bare (unpack m s)
+
+-- and so where none may stand
+order-unless : (b : Bool) (s : Simplex) (m : ℕ) → inOrder (cond b [] (placesOf m (s .costs))) ≡ inOrder (cond b [] (unpack m s))
+order-unless true s m = refl
+order-unless false s m = order-by s m
+
+-- the parts of a search that refusal 12 tests show whether it is sound
+pub sound-by : (s : Search) → soundBy (heldOf s) ≡ sound s
+unfolding sound
+sound-by s = rw (order-unless (eqb (s .counts .builds) 0) (s .standing) (s .setup .n + 1), order-by (s .gathered) (gatheredIn (s .phase))) (simp and-assoc)
 
 -- ---- what the test for a sound search tells
 

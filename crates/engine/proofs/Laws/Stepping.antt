@@ -4,8 +4,8 @@ use mathlib.Core.Bool.{true, false, true≢false}
 use mathlib.Core.Logic.{_≢_, _⊎_, ⊎-elim}
 use Prim.Native.Nat.{ℕ, zero, suc, _≤_, _<_}
 use native.Mathlib.Omega.{arith}
-use borrow.Author.Tests.{lt-ltb, le-ltb, eq-eqb, ne-eqb}
-use Rattle.rules.specs.Accept.{bestAfter, replaces, spentPhase, firstOpen, withPhase, noted, budgeted}
+use borrow.Author.Tests.{lt-ltb, le-ltb}
+use Rattle.rules.specs.Accept.{bestAfter, spentPhase, firstOpen, noted}
 use Rattle.rules.specs.Calls.{isEnded}
 use Rattle.rules.specs.declared.Vertex.{Vertex}
 use Rattle.rules.specs.declared.Search.{Search}
@@ -33,7 +33,7 @@ best-stays (suc k) v b h l = rw (le-ltb (v .cost) (b .cost) l)
 -- ---- the budget
 
 -- a spent budget leaves an ended search
-spent-ended : (p : Phase) → isEnded p ≡ true → spentPhase true p ≡ p
+pub spent-ended : (p : Phase) → isEnded p ≡ true → spentPhase true p ≡ p
 spent-ended (Building i) e = absurd (true≢false (sym e))
 spent-ended Reflecting e = absurd (true≢false (sym e))
 spent-ended (Expanding f) e = absurd (true≢false (sym e))
@@ -43,7 +43,7 @@ spent-ended (Probing p) e = absurd (true≢false (sym e))
 spent-ended (Ended cause) e = refl
 
 -- and ends any other
-spent-live : (p : Phase) → isEnded p ≡ false → spentPhase true p ≡ Ended Budget
+pub spent-live : (p : Phase) → isEnded p ≡ false → spentPhase true p ≡ Ended Budget
 spent-live (Building i) e = refl
 spent-live Reflecting e = refl
 spent-live (Expanding f) e = refl
@@ -51,19 +51,6 @@ spent-live (Contracting side f) e = refl
 spent-live (Shrinking j) e = refl
 spent-live (Probing p) e = refl
 spent-live (Ended cause) e = absurd (true≢false e)
-
-module _ (s : Search) where
-  -- the reading that spends the budget leaves an ended search
-  pub budget-settled : s .readings ≡ s .setup .budget → isEnded (s .phase) ≡ true → s ≡ budgeted s
-  budget-settled e h = rw (eq-eqb (s .readings) (s .setup .budget) e, spent-ended (s .phase) h)
-
-  -- and ends any other with cause budget
-  pub budget-spent : s .readings ≡ s .setup .budget → isEnded (s .phase) ≡ false → withPhase (Ended Budget) s ≡ budgeted s
-  budget-spent e h = rw (eq-eqb (s .readings) (s .setup .budget) e, spent-live (s .phase) h)
-
-  -- with budget left the search goes on
-  pub budget-left : s .readings ≢ s .setup .budget → s ≡ budgeted s
-  budget-left h = rw (ne-eqb (s .readings) (s .setup .budget) h)
 
 -- ---- the open readings
 

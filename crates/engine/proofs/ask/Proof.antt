@@ -1,3 +1,4 @@
+-- `engine::ask` meets its contract: an accepted call has a sound search, whose phase fits. Assumes nothing.
 use mathlib.Core.Path.{_≡_, sym, _∙_}
 use mathlib.Core.Bool.{true}
 use native.Mathlib.Omega.{arith}
@@ -14,16 +15,18 @@ ask-verdict-requires c κs = search needs
 enum-told : tie.Need-enum-told
 enum-told c = search needs
 
-trial-in-requires : tie.Need-trial-in-requires
-trial-in-requires c κs =
-    let s = c .before .before .before .args .search in
-    let h : sound s ≡ true = ask-sound s (sym (c .before .before .ask-verdict .ensures) ∙ c .enum-told .given .1) in
+trial-requires : tie.Need-trial-requires
+trial-requires c κs =
+    let at = c .before .before .before .before .before .before .before .before .before in
+    let s = at .before .before .before .args .search in
+    let h : sound s ≡ true = ask-sound s (sym (at .before .before .ask-verdict .ensures) ∙ at .enum-told .given .1) in
     (ready s h .low, ready s h .high, fits s h)
 
-add-t8 : tie.Need-add-t8
-add-t8 c =
-    let s = c .before .before .before .before .before .args .search in
-    omega (arith, room s (ask-sound s (sym (c .before .before .before .before .ask-verdict .ensures) ∙ c .before .before .enum-told .given .1)))
+add-t17 : tie.Need-add-t17
+add-t17 c =
+    let at = c .before .before .before .before .before .before .before .before .before .before .before in
+    let s = at .before .before .before .args .search in
+    omega (arith, room s (ask-sound s (sym (at .before .before .ask-verdict .ensures) ∙ at .enum-told .given .1)))
 
 enum-known-verdict : tie.Need-enum-known-verdict
 enum-known-verdict c = search needs
@@ -33,7 +36,9 @@ refused-ask-requires c κs = search needs
 
 returns : tie.Need-returns
 unfolding asking trial
-returns c = rw (← c .before .before .before .before .ask-verdict .ensures, c .before .before .enum-told .given .1, c .before .trial-in .ensures)
+returns c =
+    let at = c .before .before .before .before .before .before .before .before .before .before .before in
+    rw (← at .before .before .ask-verdict .ensures, at .enum-told .given .1, c .before .trial .ensures)
 
 returns-2 : tie.Need-returns-2
 unfolding asking
@@ -45,8 +50,8 @@ ask-spec =
     (tie.spec
     ask-verdict-requires
     enum-told
-    trial-in-requires
-    add-t8
+    trial-requires
+    add-t17
     enum-known-verdict
     refused-ask-requires
     returns

@@ -1,9 +1,7 @@
+-- `engine::change::finish` meets its contract. Assumes nothing.
 use borrow.Author.Needs.{needs}
 use Rattle.engine.proofs.change.finish.Statement.{statement}
 use Rattle.engine.proofs.change.finish.Tie as tie
-
-met-requires : tie.Need-met-requires
-met-requires c κs = search needs
 
 tested-phase-requires : tie.Need-tested-phase-requires
 tested-phase-requires c κs = search needs
@@ -18,15 +16,9 @@ changed-requires : tie.Need-changed-requires
 changed-requires c κs = search needs
 
 returns : tie.Need-returns
-returns c = rw (← c .before .before .before .before .before .before .met .ensures, ← c .before .before .before .before .before .tested-phase .ensures, ← c .before .before .before .counted .ensures, ← c .before .before .blank .ensures) (c .changed .ensures)
+returns c = rw (← c .before .before .before .before .before .tested-phase .ensures, ← c .before .before .before .counted .ensures, ← c .before .before .blank .ensures) (c .changed .ensures)
 
 pub finish-spec : {M : Type 1} → statement M
 finish-spec =
     tie.close
-    (tie.spec
-    met-requires
-    tested-phase-requires
-    counted-requires
-    blank-requires
-    changed-requires
-    returns)
+    (tie.spec tested-phase-requires counted-requires blank-requires changed-requires returns)

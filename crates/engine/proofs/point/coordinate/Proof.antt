@@ -1,17 +1,11 @@
+-- `engine::point::coordinate` meets its contract, phase by phase. Assumes nothing.
 use native.Mathlib.Nat.{zero-add}
 use native.Mathlib.Numerals.{add-one}
 use native.Mathlib.Omega.{arith}
 use lib.Ieee.{ofBits, div}
 use borrow.Author.Needs.{needs}
-use Rattle.rules.specs.Trial.{built, reflected, expanded, contracted, shrunk, probed}
 use Rattle.engine.proofs.point.coordinate.Statement.{statement}
 use Rattle.engine.proofs.point.coordinate.Tie as tie
-
-mul-x : tie.Need-mul-x
-mul-x c = search needs
-
-array-copy-out-x : tie.Need-array-copy-out-x
-array-copy-out-x c = search needs
 
 enum-known-phase : tie.Need-enum-known-phase
 enum-known-phase c = search needs
@@ -122,16 +116,16 @@ element-copy-out-moved-3 : tie.Need-element-copy-out-moved-3
 element-copy-out-moved-3 c = search needs
 
 mul-moved-6 : tie.Need-mul-moved-6
-mul-moved-6 c = omega (arith, rw (c .before .before .phase3 .given .1) at (c .before .before .before .before .before .before .before .pre .3))
+mul-moved-6 c = omega (arith, rw (c .before .before .phase3 .given .1) at (c .before .before .before .before .pre .3))
 
 add-moved-3 : tie.Need-add-moved-3
-add-moved-3 c = omega (arith, rw (c .before .before .phase3 .given .1) at (c .before .before .before .before .before .before .before .pre .3))
+add-moved-3 c = omega (arith, rw (c .before .before .phase3 .given .1) at (c .before .before .before .before .pre .3))
 
 mul-moved-7 : tie.Need-mul-moved-7
-mul-moved-7 c = omega (arith, rw (c .before .before .phase3 .given .1) at (c .before .before .before .before .before .before .before .pre .3))
+mul-moved-7 c = omega (arith, rw (c .before .before .phase3 .given .1) at (c .before .before .before .before .pre .3))
 
 element-copy-out-moved-4 : tie.Need-element-copy-out-moved-4
-element-copy-out-moved-4 c = omega (arith, rw (c .before .before .phase3 .given .1) at (c .before .before .before .before .before .before .before .pre .3))
+element-copy-out-moved-4 c = omega (arith, rw (c .before .before .phase3 .given .1) at (c .before .before .before .before .pre .3))
 
 mul-moved-8 : tie.Need-mul-moved-8
 mul-moved-8 c = search needs
@@ -158,31 +152,24 @@ enum-told-5 : tie.Need-enum-told-5
 enum-told-5 c = search needs
 
 returns : tie.Need-returns
-unfolding built
 returns c = rw (c .before .before .before .phase .given .1, ← add-one) (c .built .ensures)
 
 returns-2 : tie.Need-returns-2
-unfolding reflected
 returns-2 c = rw (c .before .before .before .enum-told .given .1, ← c .before .before .centroid .ensures) (c .moved .ensures)
 
 returns-3 : tie.Need-returns-3
-unfolding expanded reflected
 returns-3 c = rw (c .before .before .before .enum-told2 .given .1, ← c .before .before .centroid2 .ensures) (c .beyond .ensures)
 
 returns-4 : tie.Need-returns-4
-unfolding contracted reflected
 returns-4 c = rw (c .before .before .before .before .before .before .phase2 .given .1, c .before .before .enum-told3 .given .1, ← c .before .before .before .before .centroid3 .ensures) (c .beyond2 .ensures)
 
 returns-5 : tie.Need-returns-5
-unfolding contracted
 returns-5 c = rw (c .before .before .before .before .before .before .phase2 .given .1, c .before .before .enum-told4 .given .1, ← c .before .before .before .before .centroid3 .ensures) (c .moved2 .ensures)
 
 returns-6 : tie.Need-returns-6
-unfolding shrunk
 returns-6 c = rw (c .before .before .before .before .before .phase3 .given .1) (simp zero-add (c .moved3 .ensures))
 
 returns-7 : tie.Need-returns-7
-unfolding probed
 returns-7 c = rw (c .before .before .before .phase4 .given .1) (c .probed .ensures)
 
 returns-8 : tie.Need-returns-8
@@ -193,8 +180,6 @@ pub coordinate-spec : {M : Type 1} → statement M
 coordinate-spec =
     tie.close
     (tie.spec
-    mul-x
-    array-copy-out-x
     enum-known-phase
     mul-built
     element-copy-out-built

@@ -1,7 +1,10 @@
+-- `engine::sound::in_order` meets its contract. Its loop keeps that no cost up to place i is below the one before it. Assumes nothing.
 use mathlib.Core.Path.{_≡_, sym}
+use mathlib.Core.List.{[]}
 use Prim.Native.Nat.{ℕ, _-_, _≤_, _<_}
 use native.Mathlib.Omega.{arith}
 use lib.ListN.{getD}
+use Rattle.engine.specs.Places.{simplex}
 use Rattle.engine.proofs.Laws.Sounding.{below-more, rising, falling}
 use Rattle.engine.proofs.sound.in_order.Statement.{statement}
 use Rattle.engine.proofs.sound.in_order.Tie as tie
@@ -39,20 +42,20 @@ loop-less c = omega arith
 loop-again : tie.Need-loop-again Inv-loop μ-loop
 loop-again c =
     let at = c .before .before in
-    let costs = at .before .before .args .s .costs in
+    let costs = at .before .args .t1 in
     (omega arith, omega arith, below-more (λ (k : ℕ). getD costs (k - 1) 0 ≤ getD costs k 0) (at .loop .i) (at .loop .inv .2) (c .if1 .taken))
 
 returns : tie.Need-returns Inv-loop μ-loop
 returns c =
     let at = c .before .before in
-    let a = at .before .before .args in
-    sym (falling (a .s) (a .m) (at .loop .i) (omega arith) (c .if1 .left))
+    let a = at .before .args in
+    sym (falling (simplex [] (a .t1)) (a .m) (at .loop .i) (omega arith) (c .if1 .left))
 
 returns-2 : tie.Need-returns-2 Inv-loop μ-loop
 returns-2 c =
     let at = c .before in
-    let a = at .before .before .args in
-    sym (rising (a .s) (a .m) (λ k l. at .loop .inv .2 k (omega arith)))
+    let a = at .before .args in
+    sym (rising (simplex [] (a .t1)) (a .m) (λ k l. at .loop .inv .2 k (omega arith)))
 
 pub in-order-spec : {M : Type 1} → statement M
 in-order-spec =

@@ -1,11 +1,14 @@
+-- `engine::sound::sound_held` meets its contract. Its tests are those of the rules, one after the other. Assumes nothing.
 use mathlib.Core.Path.{_≡_, ap, _∙_}
-use mathlib.Core.Bool.{_&&_}
+use mathlib.Core.Bool.{cond, _&&_}
+use mathlib.Core.List.{[]}
 use mathlib.Core.Logic.{⊎-elim}
-use Prim.Native.Nat.{ℕ}
+use Prim.Native.Nat.{ℕ, _+_}
+use lib.Dec.{eqb}
 use borrow.Author.Tests.{eq-eqb, ne-eqb}
 use borrow.Author.Needs.{needs}
-use Rattle.rules.specs.Simplex.{unpack}
-use Rattle.rules.specs.Calls.{inOrder, allCosts, standingOf, gatheredOf}
+use Rattle.rules.specs.Calls.{gatheredIn, inOrder, allCosts}
+use Rattle.engine.specs.HeldBy.{placesOf}
 use Rattle.engine.proofs.Laws.Joining.{and-found}
 use Rattle.engine.proofs.sound.sound_held.Statement.{statement}
 use Rattle.engine.proofs.sound.sound_held.Tie as tie
@@ -29,7 +32,8 @@ all-costs-requires-2 : tie.Need-all-costs-requires-2
 all-costs-requires-2 c κs = search needs
 
 -- the outcome of the first test: no vertex stands before the first build has ended
-first : (c : tie.Joined1) → c .if1 .if2 ≡ inOrder (standingOf (c .before .before .before .before .before .before .before .before .before .args .s))
+first : (c : tie.Joined1) → let h = c .before .before .before .before .before .args .h in
+    c .if1 .if2 ≡ inOrder (cond (eqb (h .counts .builds) 0) [] (placesOf (h .n + 1) (h .costs)))
 unfolding inOrder
 first c =
     ⊎-elim
@@ -38,11 +42,12 @@ first c =
     (c .if1 .came)
 
 -- the outcome of the first four tests
-four : (c : tie.Joined4) → let s = c .before .before .before .before .before .before .before .before .before .before .before .before .args .s in
-    c .if4 .if5 ≡ (inOrder (standingOf s) && inOrder (gatheredOf s) && allCosts (s .standing .costs) && allCosts (s .gathered .costs))
+four : (c : tie.Joined4) → let h = c .before .before .before .before .before .before .before .before .args .h in
+    c .if4 .if5
+    ≡ (inOrder (cond (eqb (h .counts .builds) 0) [] (placesOf (h .n + 1) (h .costs))) && inOrder (placesOf (gatheredIn (h .phase)) (h .others)) && allCosts (h .costs) && allCosts (h .others))
 four c =
-    let s = c .before .before .before .before .before .before .before .before .before .before .before .before .args .s in
-    let two = and-found (first (c .before .before .before)) (c .before .before .if2 .came) (λ w. (w .0 .taken, w .3 ∙ w .2 .ensures ∙ ap (λ (k : ℕ). inOrder (unpack k (s .gathered))) (w .1 .ensures))) (λ w. (w .0 .left, w .1)) in
+    let h = c .before .before .before .before .before .before .before .before .args .h in
+    let two = and-found (first (c .before .before .before)) (c .before .before .if2 .came) (λ w. (w .0 .taken, w .3 ∙ w .2 .ensures ∙ ap (λ (k : ℕ). inOrder (placesOf k (h .others))) (w .1 .ensures))) (λ w. (w .0 .left, w .1)) in
     let three = and-found two (c .before .if3 .came) (λ w. (w .0 .taken, w .2 ∙ w .1 .ensures)) (λ w. (w .0 .left, w .1)) in
     and-found three (c .if4 .came) (λ w. (w .0 .taken, w .2 ∙ w .1 .ensures)) (λ w. (w .0 .left, w .1))
 

@@ -1,10 +1,13 @@
+-- `engine::transition::built_on` meets its contract. Assumes nothing.
 use mathlib.Core.List.{[]}
-use mathlib.Core.Path.{_≡_, refl, _∙_}
+use mathlib.Core.Path.{_≡_, refl}
 use lib.ListN.{length}
 use borrow.Author.Tests.{eq-eqb, ne-eqb}
 use borrow.Author.Needs.{needs}
 use Rattle.rules.specs.Accept.{builtOn}
 use Rattle.rules.specs.Stop.{movement}
+use Rattle.rules.specs.Binary64.{0ᶠ}
+use Rattle.engine.specs.declared.stop.Piece.the-variants.{Build}
 use Rattle.engine.proofs.Laws.Stepping.{open-small}
 use Rattle.engine.proofs.Laws.Ending.{capped-with, finished-with}
 use Rattle.engine.proofs.transition.built_on.Statement.{statement}
@@ -13,17 +16,21 @@ use Rattle.engine.proofs.transition.built_on.Tie as tie
 inserted-requires : tie.Need-inserted-requires
 inserted-requires c κs = search needs
 
-finish-requires : tie.Need-finish-requires
-finish-requires c κs =
+met-requires : tie.Need-met-requires
+met-requires c κs =
     let at = c .before .before .before .before .before in
     let a = at .args in
-    (at .pre .0, capped-with (a .s .gathered) (c .before .before .inserted .result) (a .i) (a .v) (c .before .before .inserted .ensures) (at .pre .2) (at .pre .0 .gathered))
+    let w = c .before .before .inserted in
+    (at .pre .0 .high, at .pre .0 .rule, capped-with (a .s .gathered) (w .result) (a .i) (a .v) (w .ensures) (at .pre .2) (at .pre .0 .gathered))
+
+finish-requires : tie.Need-finish-requires
+finish-requires c κs = search needs
 
 first-open-requires : tie.Need-first-open-requires
 first-open-requires c κs = search needs
 
-add-t12 : tie.Need-add-t12
-add-t12 c = search needs
+add-t14 : tie.Need-add-t14
+add-t14 c = search needs
 
 gathering-requires : tie.Need-gathering-requires
 gathering-requires c κs = (c .before .before .before .before .before .before .before .pre .0 .few, rw (c .first-open .ensures) (open-small (c .before .before .before .before .before .before .before .args .s .counts .builds) (c .before .before .before .before .before .before .before .args .i)))
@@ -31,14 +38,14 @@ gathering-requires c κs = (c .before .before .before .before .before .before .b
 returns : tie.Need-returns
 unfolding builtOn movement
 returns c =
-    let at = c .before .before .before .before .before .before in
+    let at = c .before .before .before .before .before .before .before in
     let a = at .args in
     let s = a .s in
-    let w = c .before .before .before .inserted in
+    let w = c .before .before .before .before .inserted in
+    let last = c .before .before .if1 .taken in
     let long : length (s .gathered .points) ≡ 72 = search (needs, at .good .0 .1 .1 .1 .1 .1 .0) in
     let eight : length (a .v .point) ≡ 8 = search (needs, at .good .1 .1 .0) in
-    rw (eq-eqb (a .i) (s .setup .n) (c .before .if1 .taken))
-    (c .finish .ensures ∙ finished-with (s .gathered) (w .result) (a .i) (a .v) (w .ensures) _ s _ [] [] (c .before .if1 .taken) (at .pre .0 .high) long eight refl)
+    rw (eq-eqb (a .i) (s .setup .n) last, ← finished-with (s .gathered) (w .result) (a .i) (a .v) (w .ensures) Build s 0ᶠ [] [] last (at .pre .0 .high) long eight refl, ← c .before .met .ensures) (c .finish .ensures)
 
 returns-2 : tie.Need-returns-2
 unfolding builtOn
@@ -51,9 +58,10 @@ built-on-spec =
     tie.close
     (tie.spec
     inserted-requires
+    met-requires
     finish-requires
     first-open-requires
-    add-t12
+    add-t14
     gathering-requires
     returns
     returns-2)

@@ -1,11 +1,13 @@
+-- `engine::transition::shrunk_on` meets its contract. Assumes nothing.
 use mathlib.Core.List.{map}
-use mathlib.Core.Path.{_≡_, _∙_}
+use mathlib.Core.Path.{_≡_}
 use Prim.Native.Nat.{_+_}
 use lib.ListN.{length, drop}
 use borrow.Author.Tests.{eq-eqb, ne-eqb}
 use borrow.Author.Needs.{needs}
 use Rattle.rules.specs.Accept.{shrunkPoints, shrunkOn}
 use Rattle.rules.specs.Simplex.{unpack, pointOf}
+use Rattle.engine.specs.declared.stop.Piece.the-variants.{Shrink}
 use Rattle.engine.proofs.Laws.Ending.{capped-with, finished-with}
 use Rattle.engine.proofs.transition.shrunk_on.Statement.{statement}
 use Rattle.engine.proofs.transition.shrunk_on.Tie as tie
@@ -16,14 +18,18 @@ inserted-requires c κs = search needs
 shrink-movement-requires : tie.Need-shrink-movement-requires
 shrink-movement-requires c κs = search needs
 
-finish-requires : tie.Need-finish-requires
-finish-requires c κs =
+met-requires : tie.Need-met-requires
+met-requires c κs =
     let at = c .before .before .before .before .before .before in
     let a = at .args in
-    (at .pre .0, capped-with (a .s .gathered) (c .before .before .before .inserted .result) (a .j) (a .v) (c .before .before .before .inserted .ensures) (at .pre .2) (at .pre .0 .gathered))
+    let w = c .before .before .before .inserted in
+    (at .pre .0 .high, at .pre .0 .rule, capped-with (a .s .gathered) (w .result) (a .j) (a .v) (w .ensures) (at .pre .2) (at .pre .0 .gathered))
 
-add-t11 : tie.Need-add-t11
-add-t11 c = search needs
+finish-requires : tie.Need-finish-requires
+finish-requires c κs = search needs
+
+add-t13 : tie.Need-add-t13
+add-t13 c = search needs
 
 gathering-requires : tie.Need-gathering-requires
 gathering-requires c κs = search needs
@@ -31,16 +37,15 @@ gathering-requires c κs = search needs
 returns : tie.Need-returns
 unfolding shrunkOn
 returns c =
-    let at = c .before .before .before .before .before .before .before in
+    let at = c .before .before .before .before .before .before .before .before in
     let a = at .args in
     let s = a .s in
-    let w = c .before .before .before .before .inserted in
-    let last = c .before .before .if1 .taken in
+    let w = c .before .before .before .before .before .inserted in
+    let moved = c .before .before .shrink-movement in
+    let last = c .before .before .before .if1 .taken in
     let long : length (s .gathered .points) ≡ 72 = search (needs, at .good .0 .1 .1 .1 .1 .1 .0) in
     let eight : length (a .v .point) ≡ 8 = search (needs, at .good .1 .1 .0) in
-    rw (eq-eqb (a .j) (s .setup .n) last)
-    (c .finish .ensures
-    ∙ finished-with (s .gathered) (w .result) (a .j) (a .v) (w .ensures) _ s _ (map pointOf (drop 1 (unpack (s .setup .n + 1) (s .standing)))) (shrunkPoints s) last (at .pre .0 .high) long eight (c .before .shrink-movement .ensures))
+    rw (eq-eqb (a .j) (s .setup .n) last, ← finished-with (s .gathered) (w .result) (a .j) (a .v) (w .ensures) Shrink s (moved .result) (map pointOf (drop 1 (unpack (s .setup .n + 1) (s .standing)))) (shrunkPoints s) last (at .pre .0 .high) long eight (moved .ensures), ← c .before .met .ensures) (c .finish .ensures)
 
 returns-2 : tie.Need-returns-2
 unfolding shrunkOn
@@ -54,8 +59,9 @@ shrunk-on-spec =
     (tie.spec
     inserted-requires
     shrink-movement-requires
+    met-requires
     finish-requires
-    add-t11
+    add-t13
     gathering-requires
     returns
     returns-2)

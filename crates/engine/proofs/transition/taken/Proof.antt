@@ -1,5 +1,6 @@
+-- `engine::transition::taken` meets its contract. Assumes nothing.
 use mathlib.Core.List.{[], _∷_}
-use mathlib.Core.Path.{_≡_, refl, _∙_}
+use mathlib.Core.Path.{_≡_, refl}
 use lib.ListN.{length}
 use borrow.Author.Needs.{needs}
 use Rattle.rules.specs.Simplex.{place}
@@ -18,25 +19,35 @@ distance-requires c κs = search needs
 inserted-requires : tie.Need-inserted-requires
 inserted-requires c κs = search needs
 
-finish-requires : tie.Need-finish-requires
-finish-requires c κs =
+met-requires : tie.Need-met-requires
+met-requires c κs =
     let at = c .before .before .before .before .before .before .before .before .before .before in
     let a = at .args in
-    (at .pre .0, capped-with (a .s .standing) (c .inserted .result) (a .s .setup .n) (a .v) (c .inserted .ensures) (at .pre .1) (at .pre .0 .standing))
+    let w = c .inserted in
+    (at .pre .0 .high, at .pre .0 .rule, capped-with (a .s .standing) (w .result) (a .s .setup .n) (a .v) (w .ensures) (at .pre .1) (at .pre .0 .standing))
+
+finish-requires : tie.Need-finish-requires
+finish-requires c κs = search needs
 
 returns : tie.Need-returns
 unfolding taken movement
 returns c =
-    let at = c .before .before .before .before .before .before .before .before .before .before .before in
+    let at = c .before .before .before .before .before .before .before .before .before .before .before .before in
     let a = at .args in
     let s = a .s in
+    let w = c .before .before .inserted in
+    let moved = c .before .before .before .distance in
     let long : length (s .standing .points) ≡ 72 = search (needs, at .good .0 .1 .1 .1 .1 .0) in
     let eight : length (a .v .point) ≡ 8 = search (needs, at .good .1 .1 .0) in
-    c .finish .ensures
-    ∙ finished-with (s .standing) (c .before .inserted .result) (s .setup .n) (a .v) (c .before .inserted .ensures) (a .piece) s (c .before .before .distance .result)
-    (place (s .standing) (s .setup .n) .point ∷ []) (a .v .point ∷ []) refl (at .pre .0 .high) long eight (rw (← c .before .before .before .before .before .before .point-at .ensures) (c .before .before .distance .ensures))
+    rw (← finished-with (s .standing) (w .result) (s .setup .n) (a .v) (w .ensures) (a .piece) s (moved .result) (place (s .standing) (s .setup .n) .point ∷ []) (a .v .point ∷ []) refl (at .pre .0 .high) long eight (rw (← c .before .before .before .before .before .before .before .point-at .ensures) (moved .ensures)), ← c .before .met .ensures) (c .finish .ensures)
 
 pub taken-spec : {M : Type 1} → statement M
 taken-spec =
     tie.close
-    (tie.spec point-at-requires distance-requires inserted-requires finish-requires returns)
+    (tie.spec
+    point-at-requires
+    distance-requires
+    inserted-requires
+    met-requires
+    finish-requires
+    returns)
