@@ -34,7 +34,8 @@ struct Turn {
     answer: Answer,
 }
 
-// Makes the calls of a script, up to its first malformed line or the first answer that cannot be written.
+// Makes the calls of a script, up to its first malformed line or the first answer that cannot be written. No script has so many lines that
+// their number wraps.
 fn replay(input: &[u8]) {
     let mut search = calls::closed();
     let mut from = 0;

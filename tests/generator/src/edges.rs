@@ -150,14 +150,7 @@ fn moved(random: &mut Random, opening: &mut Opening) -> Vec<u64> {
     let (after, taken) = iteration(random, opening.n);
     let vertices = costs.len();
     costs.extend(after);
-    opening.threshold = f64::from_bits(1).to_bits();
-    let points = trials(
-        &Opening {
-            budget: MOST_BUDGET,
-            ..*opening
-        },
-        &costs,
-    );
+    let points = trials_unmet(opening, &costs);
     if points.len() == costs.len() {
         let (old, new) = replaced(&costs[..vertices], &points, taken);
         let sum = old
@@ -168,6 +161,16 @@ fn moved(random: &mut Random, opening: &mut Opening) -> Vec<u64> {
         opening.threshold = about(random, sum / n, |e| sum < e * n);
     }
     costs
+}
+
+/// The trials of these costs where the rule is not met and the budget not spent.
+fn trials_unmet(opening: &mut Opening, costs: &[u64]) -> Vec<Point> {
+    opening.threshold = f64::from_bits(1).to_bits();
+    let unspent = Opening {
+        budget: MOST_BUDGET,
+        ..*opening
+    };
+    trials(&unspent, costs)
 }
 
 /// The vertices that the iteration replaces, in place order, and the points that replace them.
@@ -198,14 +201,7 @@ fn distance(sum: f64, one: &Point, other: &Point) -> f64 {
 
 fn size(random: &mut Random, opening: &mut Opening) -> Vec<u64> {
     let costs = built(random, opening.n);
-    opening.threshold = f64::from_bits(1).to_bits();
-    let points = trials(
-        &Opening {
-            budget: MOST_BUDGET,
-            ..*opening
-        },
-        &costs,
-    );
+    let points = trials_unmet(opening, &costs);
     if let Some(first) = costs
         .iter()
         .position(|cost| *cost == 100)

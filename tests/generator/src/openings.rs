@@ -105,24 +105,28 @@ pub fn spread(random: &mut Random) -> u64 {
 }
 
 fn moved(random: &mut Random) -> f64 {
-    match random.below(20) {
-        0 => axes::RANGE,
-        1 | 2 => f64::from_bits(random.between(1, 3)),
-        3..=5 => random.pick(&[1e-9, 1e-20, 1e-300, 0.1, 1e-4]),
-        6..=13 => random.power(-24, 2),
-        14..=18 => beside_power(random, -16, 4),
-        _ => random.within(0.0, 2.0).max(1e-9),
-    }
+    float_threshold(random, 1e-300, (-24, 2), (-16, 4), 2.0)
 }
 
 fn size(random: &mut Random) -> f64 {
+    float_threshold(random, 1e-170, (-14, 0), (-10, 1), 1.0)
+}
+
+/// A float threshold: at its edges, usual or tiny, a power of two or beside one, or drawn.
+fn float_threshold(
+    random: &mut Random,
+    tiny: f64,
+    powers: (i64, i64),
+    beside: (i64, i64),
+    most: f64,
+) -> f64 {
     match random.below(20) {
         0 => axes::RANGE,
         1 | 2 => f64::from_bits(random.between(1, 3)),
-        3..=5 => random.pick(&[1e-9, 1e-20, 1e-170, 0.1, 1e-4]),
-        6..=13 => random.power(-14, 0),
-        14..=18 => beside_power(random, -10, 1),
-        _ => random.within(0.0, 1.0).max(1e-9),
+        3..=5 => random.pick(&[1e-9, 1e-20, tiny, 0.1, 1e-4]),
+        6..=13 => random.power(powers.0, powers.1),
+        14..=18 => beside_power(random, beside.0, beside.1),
+        _ => random.within(0.0, most).max(1e-9),
     }
 }
 
