@@ -1,19 +1,9 @@
 // The lines of a script.
 use crate::Line;
 use crate::Word;
+use tune_text::digit;
 ghost use Prim.Native.Nat.{_+_, _*_, _≤_, _<_};
 ghost use lib.ListN.{length};
-
-// The digit that a byte is, `0` to `9` or `a` to `f`; 16 for any other byte.
-fn digit(x: u8) -> u64 {
-    if 48 <= x && x <= 57 {
-        return (x - 48) as u64;
-    }
-    if 97 <= x && x <= 102 {
-        return (x - 87) as u64;
-    }
-    16
-}
 
 // The word that stands here, after a space.
 fn word_at(input: &[u8], from: usize) -> Word

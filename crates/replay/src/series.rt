@@ -5,7 +5,6 @@ use rules::Axis;
 use rules::Coefficients;
 use rules::Opened;
 use rules::RuleChoice;
-use rules::Verdict;
 use tune_text::bits_of;
 use tune_text::float_of;
 ghost use Prim.Native.Nat.{_≤_};
@@ -23,7 +22,7 @@ struct Run {
 }
 
 // What the whole series told: how many searches, and the sum of their costs.
-struct Ran {
+struct Total {
     searches: u64,
     sum: u64,
 }
@@ -84,13 +83,6 @@ fn open(n: usize) -> Opened {
     engine::open_search(n, [axis; 8], RuleChoice::Unnamed, usual, 1000000)
 }
 
-fn is_accepted(verdict: Verdict) -> bool {
-    match verdict {
-        Verdict::Accepted => true,
-        Verdict::Refused(_) => false,
-    }
-}
-
 // One search: asks and tells until it ends or so many readings are told.
 fn run_one(n: usize, around: [f64; 8], most: u64) -> Run
     requires { ⌜ n ≤ 8 ⌝ }
@@ -103,7 +95,7 @@ fn run_one(n: usize, around: [f64; 8], most: u64) -> Run
     while told < most {
         let asked = engine::ask(search);
         let verdict = asked.verdict;
-        if !is_accepted(verdict) {
+        if number_of(verdict) != 0 {
             break;
         }
         let point = asked.point;
@@ -117,7 +109,7 @@ fn run_one(n: usize, around: [f64; 8], most: u64) -> Run
 }
 
 // The searches of the series, one after the other, until so many readings are told.
-fn run_all(n: usize, readings: u64) -> Ran
+fn run_all(n: usize, readings: u64) -> Total
     requires { ⌜ n ≤ 8 ⌝ }
 {
     let mut left = readings;
@@ -136,7 +128,7 @@ fn run_all(n: usize, readings: u64) -> Ran
         searches = std::num::wrapping_add_u64(searches, 1);
         sum = std::num::wrapping_add_u64(sum, run.sum);
     }
-    Ran { searches, sum }
+    Total { searches, sum }
 }
 
 // The series on n axes, so many readings in all: the openings' verdict, the searches opened, and the sum of the costs.
@@ -145,10 +137,10 @@ pub(super) fn series(n: usize, readings: u64) -> Answer {
     let verdict = opened.verdict;
     let mut words = [0u64; 100];
     words[0] = number_of(verdict);
-    if is_accepted(verdict) && n <= 8 {
-        let ran = run_all(n, readings);
-        words[1] = ran.searches;
-        words[2] = ran.sum;
+    if words[0] == 0 && n <= 8 {
+        let total = run_all(n, readings);
+        words[1] = total.searches;
+        words[2] = total.sum;
     }
     Answer { words, count: 3 }
 }

@@ -7,7 +7,7 @@ ghost use Rattle.tune_text.specs.Fields.{digitOf, form, whole, hexadecim
 ghost use Rattle.tune_text.specs.Handed.{numberOf, numbersOf};
 
 // The digit that a byte is, `0` to `9` or `a` to `f`; 16 for any other byte.
-fn digit(x: u8) -> u64
+pub fn digit(x: u8) -> u64
     ensures { λ r. ⌜ r ≡ digitOf x ⌝ }
 {
     if 48 <= x && x <= 57 {

@@ -11,6 +11,7 @@ mod opening;
 mod reading;
 mod steps;
 
+pub use fields::digit;
 ghost use mathlib.Core.Path.{_≡_};
 ghost use lib.Ieee.{binary64, ofBits, toBits};
 ghost use Rattle.tune_text.specs.Reading.{isDone};

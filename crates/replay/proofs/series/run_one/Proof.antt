@@ -19,8 +19,8 @@ loop-holds c = omega arith
 ask-requires : tie.Need-ask-requires Inv-loop μ-loop
 ask-requires c κs = tt
 
-is-accepted-requires : tie.Need-is-accepted-requires Inv-loop μ-loop
-is-accepted-requires c κs = tt
+number-of-requires : tie.Need-number-of-requires Inv-loop μ-loop
+number-of-requires c κs = tt
 
 cost-of-requires : tie.Need-cost-of-requires Inv-loop μ-loop
 cost-of-requires c κs = omega arith
@@ -55,7 +55,7 @@ run-one-spec =
     open-requires
     loop-holds
     ask-requires
-    is-accepted-requires
+    number-of-requires
     cost-of-requires
     tell-requires
     wrapping-add-u64-requires
