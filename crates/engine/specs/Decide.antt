@@ -58,7 +58,7 @@ Allowed n (Shrunk j) = (1 ≤ j) × (j ≤ n)
 Allowed n (Probe p) = p < 2 * n
 Allowed n Nothing = Unit {0}
 
--- what is done then
+-- what is done after a decision, with the vertex v that is kept, b being the best cost before the reading
 abbrev pub actedOn : Decision → ℕ → Vertex → Search → Search
 actedOn (Build i) b v s = builtOn i v s
 actedOn (Take piece) b v s = taken (pieceOf piece) v s

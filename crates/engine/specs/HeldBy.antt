@@ -3,8 +3,9 @@ use mathlib.Core.Bool.{Bool, cond, _&&_}
 use mathlib.Core.List.{List, []}
 use Prim.Native.Nat.{ℕ, _+_}
 use lib.Dec.{leb, ltb, eqb}
+use Rattle.rules.specs.Numbers.{maxCost, maxBudget}
 use Rattle.rules.specs.Simplex.{unpack}
-use Rattle.rules.specs.Calls.{maxCost, gatheredIn, inOrder, allCosts, soundRule, soundCounts, soundPhase}
+use Rattle.rules.specs.Calls.{gatheredIn, inOrder, allCosts, soundRule, soundCounts, soundPhase}
 use Rattle.rules.specs.declared.Vertex.{Vertex}
 use Rattle.rules.specs.declared.Search.{Search}
 use Rattle.engine.specs.Places.{simplex}
@@ -25,7 +26,7 @@ heldOf s =
       best = s .best .cost;
     }
 
--- the first m places of these costs, whatever their points
+-- the first m places with the costs cs, whatever their points
 abbrev pub placesOf : ℕ → List ℕ → List Vertex
 placesOf m cs = unpack m (simplex [] cs)
 
@@ -39,6 +40,6 @@ soundHeld h =
 abbrev pub soundBy : Held → Bool
 soundBy h =
     leb 1 (h .n) && leb (h .n) 8
-    && ltb (h .readings) (h .budget) && soundCounts (h .budget) (h .counts) && leb (h .budget) 1000000
+    && ltb (h .readings) (h .budget) && soundCounts (h .budget) (h .counts) && leb (h .budget) maxBudget
     && soundRule (h .rule) && soundPhase (h .n) (h .counts .builds) (h .phase)
     && soundHeld h

@@ -2,7 +2,8 @@
 use mathlib.Core.Path.{_≡_}
 use mathlib.Core.Bool.{true}
 use Prim.Native.Nat.{ℕ, _*_, _≤_, _<_}
-use Rattle.rules.specs.Calls.{maxCost, soundRule}
+use Rattle.rules.specs.Numbers.{maxCost, maxBudget}
+use Rattle.rules.specs.Calls.{soundRule}
 use Rattle.rules.specs.declared.Counts.{Counts}
 use Rattle.rules.specs.declared.Search.{Search}
 use Rattle.rules.specs.declared.Phase.{Phase}
@@ -19,21 +20,21 @@ Fits n (Shrinking j) = (1 ≤ j) × (j ≤ n)
 Fits n (Probing p) = p < 2 * n
 Fits n (Ended cause) = Unit {0}
 
--- one more of any count still fits
-pub record Few (c : Counts) : Type 0 where
-  pub builds : c .builds ≤ 1000000
-  pub reflections : c .reflections ≤ 1000000
-  pub expansions : c .expansions ≤ 1000000
-  pub contractions : c .contractions ≤ 1000000
-  pub shrinks : c .shrinks ≤ 1000000
-  pub probes : c .probes ≤ 1000000
-  pub unfinished : c .unfinished ≤ 1000000
+-- each count is at most the largest budget, so that one more of it fits 64 bits
+pub record CountsFit (c : Counts) : Type 0 where
+  pub builds : c .builds ≤ maxBudget
+  pub reflections : c .reflections ≤ maxBudget
+  pub expansions : c .expansions ≤ maxBudget
+  pub contractions : c .contractions ≤ maxBudget
+  pub shrinks : c .shrinks ≤ maxBudget
+  pub probes : c .probes ≤ maxBudget
+  pub unfinished : c .unfinished ≤ maxBudget
 
 -- what every step of a reading needs of its search
 pub record Ready (s : Search) : Type 0 where
   pub low : 1 ≤ s .setup .n
   pub high : s .setup .n ≤ 8
   pub rule : soundRule (s .setup .rule) ≡ true
-  pub few : Few (s .counts)
+  pub counts : CountsFit (s .counts)
   pub standing : Capped (s .standing .costs)
   pub gathered : Capped (s .gathered .costs)

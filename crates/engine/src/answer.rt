@@ -1,3 +1,4 @@
+// Refused answers of the later calls: the refusal, and the search as given.
 use rules::Asked;
 use rules::Refusal;
 use rules::Search;

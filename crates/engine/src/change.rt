@@ -1,3 +1,4 @@
+// Changes of a search after a reading: the counts and the best of it, and the one function that writes a search anew.
 use super::place::blank;
 use super::stop::Piece;
 use rules::Counts;
@@ -7,16 +8,17 @@ use rules::Simplex;
 use rules::Vertex;
 ghost use mathlib.Core.Path.{_≡_};
 ghost use Prim.Native.Nat.{_≤_, _<_};
-ghost use Rattle.rules.specs.Accept.{noted, counted, opened, probedOnce, withPhase, waiting, testedPhase};
+ghost use Rattle.rules.specs.Numbers.{maxBudget};
+ghost use Rattle.rules.specs.Accept.{noted, counted, addOpen, probedOnce, withPhase, waiting, testedPhase};
 ghost use Rattle.rules.specs.Calls.{isEnded};
 ghost use Rattle.rules.specs.Simplex.{pack};
 ghost use mathlib.Core.List.{[]};
-ghost use Rattle.engine.specs.Ready.{Few};
+ghost use Rattle.engine.specs.Ready.{CountsFit};
 ghost use Rattle.engine.specs.Finish.{pieceOf, changedTo};
 
 // One reading more, with the best after it: replaced only by a lower one.
 pub(super) fn noted(s: Search, v: Vertex) -> Search
-    requires { ⌜ s .readings < 1000000 ⌝ }
+    requires { ⌜ s .readings < maxBudget ⌝ }
     ensures { λ r. ⌜ r ≡ noted v s ⌝ }
 {
     let mut t = s;
@@ -32,7 +34,7 @@ pub(super) fn noted(s: Search, v: Vertex) -> Search
 
 // The counts with a finished piece more, and nothing open.
 fn counted(piece: Piece, counts: Counts) -> Counts
-    requires { ⌜ Few counts ⌝ }
+    requires { ⌜ CountsFit counts ⌝ }
     ensures { λ r. ⌜ r ≡ counted (pieceOf piece) counts ⌝ }
 {
     let mut c = counts;
@@ -48,9 +50,9 @@ fn counted(piece: Piece, counts: Counts) -> Counts
 }
 
 // The counts with k readings more open.
-fn opened(counts: Counts, k: u64) -> Counts
-    requires { ⌜ (Few counts) × (k ≤ 1) ⌝ }
-    ensures { λ r. ⌜ r ≡ opened k counts ⌝ }
+fn add_open(counts: Counts, k: u64) -> Counts
+    requires { ⌜ (CountsFit counts) × (k ≤ 1) ⌝ }
+    ensures { λ r. ⌜ r ≡ addOpen k counts ⌝ }
 {
     let mut c = counts;
     c.unfinished = c.unfinished + k;
@@ -59,7 +61,7 @@ fn opened(counts: Counts, k: u64) -> Counts
 
 // The counts with a probe more.
 pub(super) fn probed_once(counts: Counts) -> Counts
-    requires { ⌜ Few counts ⌝ }
+    requires { ⌜ CountsFit counts ⌝ }
     ensures { λ r. ⌜ r ≡ probedOnce counts ⌝ }
 {
     let mut c = counts;
@@ -67,7 +69,7 @@ pub(super) fn probed_once(counts: Counts) -> Counts
     c
 }
 
-// The search with these parts changed. Every step of a reading ends here.
+// The search with its phase, simplexes, center and counts changed. Every step of a reading ends here.
 pub(super) fn changed(
     s: Search,
     phase: Phase,
@@ -118,21 +120,21 @@ pub(super) fn with_phase(s: Search, phase: Phase) -> Search
     changed(s, phase, standing, gathered, center, counts)
 }
 
-// The piece goes on in another phase with these vertices gathered, and k readings more open.
+// The piece goes on in another phase with other vertices gathered, and k readings more open.
 pub(super) fn gathering(s: Search, phase: Phase, gathered: Simplex, k: u64) -> Search
-    requires { ⌜ (Few (s .counts)) × (k ≤ 1) ⌝ }
-    ensures { λ r. ⌜ r ≡ changedTo phase (s .standing) gathered (s .center) (opened k (s .counts)) s ⌝ }
+    requires { ⌜ (CountsFit (s .counts)) × (k ≤ 1) ⌝ }
+    ensures { λ r. ⌜ r ≡ changedTo phase (s .standing) gathered (s .center) (addOpen k (s .counts)) s ⌝ }
 {
     let standing = s.standing;
     let center = s.center;
     let before = s.counts;
-    let counts = opened(before, k);
+    let counts = add_open(before, k);
     changed(s, phase, standing, gathered, center, counts)
 }
 
 // The iteration goes on in another phase, with one reading more open.
 pub(super) fn waiting(s: Search, phase: Phase) -> Search
-    requires { ⌜ Few (s .counts) ⌝ }
+    requires { ⌜ CountsFit (s .counts) ⌝ }
     ensures { λ r. ⌜ r ≡ waiting phase 1 s ⌝ }
 {
     let gathered = s.gathered;
@@ -152,7 +154,7 @@ fn tested_phase(met: bool) -> Phase
 
 // The end of a piece: the vertices stand, the piece is counted, and a met rule begins a probe round.
 pub(super) fn finish(s: Search, piece: Piece, met: bool, standing: Simplex) -> Search
-    requires { ⌜ Few (s .counts) ⌝ }
+    requires { ⌜ CountsFit (s .counts) ⌝ }
     ensures { λ r. ⌜ r ≡ changedTo (testedPhase met) standing (pack []) (s .center) (counted (pieceOf piece) (s .counts)) s ⌝ }
 {
     let phase = tested_phase(met);

@@ -1,3 +1,4 @@
+// What an accepted reading decides by the table of "Iteration", and which vertex it brings.
 use super::point::trial_in;
 use super::stop::Piece;
 use rules::Phase;

@@ -1,3 +1,4 @@
+// The arithmetic of one axis: the clamp, and the form of every move.
 use rules::Axis;
 ghost use mathlib.Core.Path.{_≡_};
 ghost use Prim.Native.Nat.{_≤_};

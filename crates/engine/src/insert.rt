@@ -1,3 +1,4 @@
+// A newcomer among the places, after all of equal cost: the recursion of document 01, on one vertex fewer at each call.
 use super::place::place_at;
 use super::place::put;
 use rules::Simplex;

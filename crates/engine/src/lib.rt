@@ -25,7 +25,8 @@ mod stop;
 mod transition;
 
 ghost use mathlib.Core.Path.{_≡_};
-ghost use Rattle.rules.specs.Opening.{opening, numberOf, axisOf};
+ghost use Rattle.rules.specs.Refusals.{numberOf, axisOf};
+ghost use Rattle.rules.specs.Opening.{opening};
 ghost use Rattle.rules.specs.Calls.{asking, telling, showing};
 
 // Opens a search: n axes, eight records of which those past n are not read, a stopping rule or none, the

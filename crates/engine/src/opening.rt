@@ -1,8 +1,11 @@
+// The opening: its refusals 1 to 7 in table order, and the search that it gives, open or closed.
 use super::place::blank;
 use rules::Axis;
 use rules::Cause;
 use rules::Coefficients;
 use rules::Counts;
+use rules::MAX_BUDGET;
+use rules::MAX_SPREAD;
 use rules::Phase;
 use rules::Refusal;
 use rules::Rule;
@@ -24,28 +27,28 @@ fn in_range(v: f64) -> bool
     -1048576.0 <= v && v <= 1048576.0
 }
 
-// Check 2 on an axis.
+// Whether an axis record passes check 2: each of its four numbers is in range.
 fn all_in_range(x: Axis) -> bool
     ensures { λ r. ⌜ r ≡ allInRange x ⌝ }
 {
     in_range(x.lo) && in_range(x.hi) && in_range(x.start) && in_range(x.step)
 }
 
-// Check 3 on an axis.
+// Whether an axis record passes check 3: its limits, start and step fit each other.
 fn in_limits(x: Axis) -> bool
     ensures { λ r. ⌜ r ≡ inLimits x ⌝ }
 {
     x.lo < x.hi && x.lo <= x.start && x.start <= x.hi && 0.0 < x.step
 }
 
-// Check 4 on an axis.
+// Whether an axis record passes check 4: its step moves the start and is at most half the range.
 fn in_step(x: Axis) -> bool
     ensures { λ r. ⌜ r ≡ inStep x ⌝ }
 {
     !(x.start + x.step == x.start) && !((x.hi - x.lo) / 2.0 < x.step)
 }
 
-// Checks 2, 3 and 4 on the i-th axis, counted from 1.
+// The verdict of checks 2, 3 and 4 on the i-th axis, counted from 1.
 fn axis_verdict(i: usize, x: Axis) -> Verdict
     ensures { λ r. ⌜ r ≡ axisChecks i x Accepted ⌝ }
 {
@@ -62,7 +65,7 @@ fn axis_verdict(i: usize, x: Axis) -> Verdict
     }
 }
 
-// The same on the first n axes, lowest first.
+// The verdict of checks 2, 3 and 4 on the first n axes, lowest axis first.
 fn axes_verdict(n: usize, axes: [Axis; 8]) -> Verdict
     requires { ⌜ n ≤ 8 ⌝ }
     ensures { λ r. ⌜ r ≡ axesChecks n 0 axes Accepted ⌝ }
@@ -79,7 +82,7 @@ fn axes_verdict(n: usize, axes: [Axis; 8]) -> Verdict
     Verdict::Accepted
 }
 
-// Check 5.
+// Whether the coefficients pass check 5: each is in its range.
 fn in_coefficients(c: Coefficients) -> bool
     ensures { λ r. ⌜ r ≡ inCoefficients c ⌝ }
 {
@@ -94,12 +97,12 @@ fn in_coefficients(c: Coefficients) -> bool
         && c.sigma < 1.0
 }
 
-// Check 6.
+// Whether a rule passes check 6: its threshold is in range.
 fn in_threshold(rule: Rule) -> bool
     ensures { λ r. ⌜ r ≡ inThreshold rule ⌝ }
 {
     match rule {
-        Rule::Spread(e) => 1 <= e && e <= 4294967295,
+        Rule::Spread(e) => 1 <= e && e <= MAX_SPREAD,
         Rule::Moved(e) => 0.0 < e && e <= 1048576.0,
         Rule::Size(e) => 0.0 < e && e <= 1048576.0,
     }
@@ -115,7 +118,7 @@ fn rule_of(choice: RuleChoice) -> Rule
     }
 }
 
-// Checks 1 to 7, in table order.
+// The verdict of checks 1 to 7, in table order.
 pub(super) fn open_verdict(
     n: usize,
     axes: [Axis; 8],
@@ -138,7 +141,7 @@ pub(super) fn open_verdict(
     if !in_threshold(rule_of(choice)) {
         return Verdict::Refused(Refusal::BadThreshold);
     }
-    if (n as u64) < budget && budget <= 1000000 {
+    if (n as u64) < budget && budget <= MAX_BUDGET {
         Verdict::Accepted
     } else {
         Verdict::Refused(Refusal::BadBudget)

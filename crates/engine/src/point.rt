@@ -1,3 +1,4 @@
+// Points: the coordinate that each phase asks for on an axis, the trial made of them, and a point cut after n coordinates.
 use super::float::clamp;
 use super::float::moved;
 use super::float::whole;

@@ -1,5 +1,9 @@
+// The verdicts of the later calls: refusal 12, by the parts of a search that it reads, then 8 to 11.
 use super::change::is_ended;
 use rules::Counts;
+use rules::MAX_BUDGET;
+use rules::MAX_COST;
+use rules::MAX_SPREAD;
 use rules::Phase;
 use rules::Refusal;
 use rules::Rule;
@@ -29,7 +33,7 @@ fn all_costs(costs: [u64; 9]) -> bool
 {
     let mut i = 0;
     while i < 9 {
-        if costs[i] <= 16777215 {
+        if costs[i] <= MAX_COST {
             i += 1;
         } else {
             return false;
@@ -62,8 +66,8 @@ fn sound_phase(n: usize, builds: u64, phase: Phase) -> bool
     match phase {
         Phase::Building(i) => i <= n && (builds == 0 || 1 <= i),
         Phase::Reflecting => true,
-        Phase::Expanding(f) => f <= 16777215,
-        Phase::Contracting(_, f) => f <= 16777215,
+        Phase::Expanding(f) => f <= MAX_COST,
+        Phase::Contracting(_, f) => f <= MAX_COST,
         Phase::Shrinking(j) => 1 <= j && j <= n,
         Phase::Probing(p) => p < 2 * n,
         Phase::Ended(_) => true,
@@ -90,7 +94,7 @@ fn sound_rule(rule: Rule) -> bool
     ensures { λ r. ⌜ r ≡ soundRule rule ⌝ }
 {
     match rule {
-        Rule::Spread(e) => e <= 4294967295,
+        Rule::Spread(e) => e <= MAX_SPREAD,
         Rule::Moved(_) => true,
         Rule::Size(_) => true,
     }
@@ -148,7 +152,7 @@ fn sound_held(h: Held) -> bool
         && in_order(others, gathered_in(phase))
         && all_costs(costs)
         && all_costs(others)
-        && h.best <= 16777215
+        && h.best <= MAX_COST
 }
 
 // None of the causes of refusal 12, for a search that has not ended.
@@ -162,7 +166,7 @@ fn sound(h: Held) -> bool
         && h.n <= 8
         && h.readings < h.budget
         && sound_counts(h.budget, counts)
-        && h.budget <= 1000000
+        && h.budget <= MAX_BUDGET
         && sound_rule(rule)
         && sound_phase(h.n, counts.builds, phase)
         && sound_held(h)
@@ -196,7 +200,7 @@ pub(super) fn tell_verdict(s: Search, number: u64, cost: u64) -> Verdict
     if number != s.readings + 1 {
         return Verdict::Refused(Refusal::WrongNumber);
     }
-    if cost <= 16777215 {
+    if cost <= MAX_COST {
         Verdict::Accepted
     } else {
         Verdict::Refused(Refusal::CostTooHigh)

@@ -1,3 +1,4 @@
+// The three stopping rules, spread, moved and size, tested where a build or an iteration ends.
 use super::float::whole;
 use super::place::point_at;
 use rules::Rule;
@@ -7,6 +8,7 @@ ghost use mathlib.Core.Bool.{true};
 ghost use mathlib.Core.List.{map};
 ghost use Prim.Native.Nat.{_+_, _-_, _≤_};
 ghost use lib.ListN.{take, drop};
+ghost use Rattle.rules.specs.Numbers.{maxSpread};
 ghost use Rattle.rules.specs.Simplex.{place, unpack};
 ghost use Rattle.rules.specs.Stop.{total, square, spreadMet, apart, norm, allWithin, sizeMet};
 ghost use Rattle.rules.specs.Calls.{soundRule};
@@ -82,7 +84,7 @@ fn sums_of(costs: [u64; 9], m: usize) -> Sums
 
 // The rule spread, in whole numbers.
 fn spread_met(s: Simplex, n: usize, e: u64) -> bool
-    requires { ⌜ (n ≤ 8) × (e ≤ 4294967295) × Capped (s .costs) ⌝ }
+    requires { ⌜ (n ≤ 8) × (e ≤ maxSpread) × Capped (s .costs) ⌝ }
     ensures { λ r. ⌜ r ≡ spreadMet n e (unpack (n + 1) s) ⌝ }
 {
     let m = n + 1;

@@ -1,3 +1,4 @@
+// The search after an accepted reading: what was decided is done, then the budget is tested.
 use super::change::changed;
 use super::change::finish;
 use super::change::gathering;
@@ -27,9 +28,9 @@ ghost use Prim.Native.Nat.{_+_, _≤_, _<_};
 ghost use lib.ListN.{drop};
 ghost use lib.Dec.{eqb};
 ghost use Rattle.rules.specs.Binary64.{0ᶠ};
+ghost use Rattle.rules.specs.Numbers.{maxCost, maxBudget};
 ghost use Rattle.rules.specs.Simplex.{unpack, pointOf};
 ghost use Rattle.rules.specs.Stop.{movement};
-ghost use Rattle.rules.specs.Calls.{maxCost};
 ghost use Rattle.rules.specs.Accept.{taken, firstOpen, builtOn, shrinking, shrunkPoints, shrunkOn, probedOn, advanced, spentPhase, budgeted, accept};
 ghost use Rattle.engine.specs.Ready.{Fits, Ready};
 ghost use Rattle.engine.specs.Finish.{pieceOf};
@@ -213,7 +214,7 @@ fn budgeted(s: Search) -> Search
 
 // The search after an accepted reading.
 pub(super) fn accept(s: Search, cost: u64) -> Search
-    requires { ⌜ (Ready s) × (s .readings < 1000000) × (Fits (s .setup .n) (s .phase)) × (cost ≤ maxCost) ⌝ }
+    requires { ⌜ (Ready s) × (s .readings < maxBudget) × (Fits (s .setup .n) (s .phase)) × (cost ≤ maxCost) ⌝ }
     ensures { λ r. ⌜ r ≡ accept s cost ⌝ }
 {
     let phase = s.phase;

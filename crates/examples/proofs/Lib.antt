@@ -1,3 +1,2 @@
 -- Theorems that no single function owns.
-pub mod Playing
-pub mod Facts
+pub mod Calls

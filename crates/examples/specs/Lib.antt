@@ -1,3 +1,2 @@
-pub mod Play
-pub mod Hold
+-- What the promise of `listed` cites.
 pub mod List

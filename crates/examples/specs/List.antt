@@ -13,13 +13,13 @@ use Rattle.rules.specs.declared.RuleChoice.{RuleChoice}
 use Rattle.rules.specs.declared.Opened.{Opened}
 use Rattle.rules.specs.declared.Verdict.the-variants.{Accepted}
 
--- 0 asks, 1 tells, anything else asks for the best
+-- the call of a kind: 0 asks, 1 tells this number and cost, anything else asks for the best
 abbrev pub callOf : ℕ → ℕ → ℕ → Call
 callOf zero number cost = ask
 callOf (suc zero) number cost = tell number cost
 callOf (suc (suc k)) number cost = best
 
--- the calls of three lists
+-- the calls of a list of kinds, one of reading numbers and one of costs
 abbrev pub callsOf : List ℕ → List ℕ → List ℕ → List Call
 callsOf kinds numbers costs = upTo (λ (i : ℕ). callOf (getD kinds i 0) (getD numbers i 0) (getD costs i 0)) (length kinds)
 

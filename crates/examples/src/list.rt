@@ -1,10 +1,12 @@
-use super::rooms;
+// Any list of calls on a newly opened search, by the engine, and demand 3 as the promise of it.
+use super::openings;
 use super::show;
 use rules::Axis;
 use rules::Coefficients;
 use rules::Opened;
 use rules::RuleChoice;
 use rules::Search;
+use rules::USUAL;
 ghost use mathlib.Core.Path.{_≡_};
 ghost use lib.ListN.{length};
 ghost use Rattle.rules.specs.History.{after1, after};
@@ -69,7 +71,7 @@ pub(super) fn listed(
 // three costs 30, 20 and 10.
 pub(super) fn all() {
     show::text(b"a list of calls\n");
-    let axes = [rooms::axis(0.0, 8.0); 8];
+    let axes = [openings::axis(0.0, 8.0); 8];
     let kinds = [0u64, 1, 1, 2, 1, 1, 1, 0];
     let numbers = [0u64, 1, 1, 0, 2, 5, 3, 0];
     let costs = [0u64, 30, 30, 0, 20, 7, 10, 0];
@@ -77,7 +79,7 @@ pub(super) fn all() {
         2,
         axes,
         RuleChoice::Unnamed,
-        rooms::usual(),
+        USUAL,
         100,
         &kinds,
         &numbers,

@@ -1,12 +1,11 @@
-// P1 to P12 of document 01 and further cases, run through the engine's calls. What the contracts prove of an
-// answer is expected; the trials are printed by their bits.
+// P1 to P12 of document 01 and further cases, run through the engine's calls and printed: trials by their bits, then where each search
+// stands. What is printed is held to the file stdout. `listed` carries demand 3 to the engine.
 mod cases;
-mod hold;
 mod list;
+mod openings;
 mod paper;
 mod play;
 mod refusals;
-mod rooms;
 mod show;
 
 fn main() {

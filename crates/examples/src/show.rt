@@ -1,10 +1,13 @@
+// What the program prints: texts, trials, refusals, and where a search stands.
 use libc::STDOUT_FILENO;
+use numerals::bits_of;
 use rules::Asked;
 use rules::Cause;
 use rules::Counts;
 use rules::Phase;
 use rules::Search;
 use rules::Side;
+use rules::Verdict;
 
 // Writes a text.
 pub(super) fn text(t: &[u8]) {
@@ -23,7 +26,7 @@ fn coordinates(n: usize, point: [f64; 8]) {
     while a < 8 {
         if a < n {
             text(b" ");
-            io::print_hex(STDOUT_FILENO, tune_text::bits_of(point[a]), 16);
+            io::print_hex(STDOUT_FILENO, bits_of(point[a]), 16);
         }
         a += 1;
     }
@@ -86,12 +89,16 @@ pub(super) fn state(s: Search) {
     counts(known);
 }
 
-// Writes a refusal by its number, with its axis where it has one; 0 is none.
-pub(super) fn refusal(n: u64, axis: usize) {
-    if n == 0 {
-        text(b"accepted\n");
-        return;
+// Writes a verdict: a refusal by its number, with its axis where it has one.
+pub(super) fn verdict(v: Verdict) {
+    match v {
+        Verdict::Accepted => text(b"accepted\n"),
+        Verdict::Refused(r) => refusal(engine::refusal_number(r), engine::refusal_axis(r)),
     }
+}
+
+// Writes a refusal by its number and its axis; 0 is no axis.
+fn refusal(n: u64, axis: usize) {
     text(b"refused");
     number(n);
     if axis != 0 {

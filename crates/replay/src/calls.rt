@@ -4,13 +4,13 @@ use super::state;
 use crate::Answer;
 use crate::Line;
 use crate::Turn;
+use numerals::float_of;
 use rules::Axis;
 use rules::Coefficients;
 use rules::Rule;
 use rules::RuleChoice;
 use rules::Search;
 use rules::Verdict;
-use tune_text::float_of;
 
 // The refusal's number, or 0.
 pub(super) fn number_of(verdict: Verdict) -> u64 {

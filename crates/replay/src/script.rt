@@ -1,7 +1,7 @@
 // The lines of a script.
 use crate::Line;
 use crate::Word;
-use tune_text::digit;
+use numerals::digit;
 ghost use Prim.Native.Nat.{_+_, _*_, _≤_, _<_};
 ghost use lib.ListN.{length};
 

@@ -1,12 +1,13 @@
 // A series of searches with a generated cost.
 use super::calls::number_of;
 use crate::Answer;
+use numerals::bits_of;
+use numerals::float_of;
 use rules::Axis;
-use rules::Coefficients;
+use rules::MAX_BUDGET;
 use rules::Opened;
 use rules::RuleChoice;
-use tune_text::bits_of;
-use tune_text::float_of;
+use rules::USUAL;
 ghost use Prim.Native.Nat.{_≤_};
 
 // The point that a search's bowl stands around, and the generator's number after it.
@@ -74,13 +75,7 @@ fn open(n: usize) -> Opened {
         start: 0.0,
         step: 1.0,
     };
-    let usual = Coefficients {
-        alpha: 1.0,
-        chi: 2.0,
-        beta: 0.5,
-        sigma: 0.5,
-    };
-    engine::open_search(n, [axis; 8], RuleChoice::Unnamed, usual, 1000000)
+    engine::open_search(n, [axis; 8], RuleChoice::Unnamed, USUAL, MAX_BUDGET)
 }
 
 // One search: asks and tells until it ends or so many readings are told.

@@ -1,12 +1,12 @@
 // The state line: phase, counts, best reading and standing simplex.
 use crate::Answer;
+use numerals::bits_of;
 use rules::Cause;
 use rules::Phase;
 use rules::Search;
 use rules::Side;
 use rules::Simplex;
 use rules::Vertex;
-use tune_text::bits_of;
 ghost use Prim.Native.Nat.{_+_, _≤_};
 
 // Puts a point's coordinates here.

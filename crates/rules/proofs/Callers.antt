@@ -10,10 +10,12 @@ use lib.Dec.{eqb, leb}
 use lib.Ieee.{Float, nan}
 use borrow.Author.Tests.{eqb-true, ne-eqb, eq-eqb, lt-leb}
 use Rattle.rules.specs.Binary64.{_≤ᶠ_}
+use Rattle.rules.specs.Numbers.{maxCost}
 use Rattle.rules.specs.Trial.{noAxis}
 use Rattle.rules.specs.Accept.{run}
-use Rattle.rules.specs.Opening.{opening, fresh, check, numberOf}
-use Rattle.rules.specs.Calls.{isEnded, maxCost, undamaged, askVerdict, tellVerdict, bestVerdict, toldBy, asking, telling, showing}
+use Rattle.rules.specs.Refusals.{check, numberOf}
+use Rattle.rules.specs.Opening.{opening, fresh}
+use Rattle.rules.specs.Calls.{isEnded, undamaged, askVerdict, tellVerdict, bestVerdict, toldBy, asking, telling, showing}
 use Rattle.rules.specs.History.{Call, tell, best, after1, after, joins, history1, historyFrom, history, reading}
 use Rattle.rules.specs.Claims.{Within, Claims}
 use Rattle.rules.specs.declared.Axis.{Axis}
@@ -229,4 +231,4 @@ module _ (n : ℕ) (axes : List Axis) (rule : RuleChoice) (coefficients : Coeffi
   schedule-budget cs =
       let r = whole-run openedSearch begun (accepted-costs cs) (followed cs .0) in
       let given = ap (λ (t : Setup). t .budget) (r .kept ∙ setup-given) in
-      rw (followed cs .1) (omega (arith, r .inv .noted .room, given))
+      rw (followed cs .1) (omega (arith, r .inv .noted .below, given))

@@ -1,5 +1,5 @@
--- P1 to P12 of document 01 as one list, further cases, and openings for every row of the refusal table, by computation. Assumes
--- nothing.
+-- P1 to P12 of document 01 as one list, further cases, openings for every row of the refusal table, endings, refused calls and the
+-- refusals' numbers, by computation. Assumes nothing.
 use mathlib.Core.Path.{_≡_, refl}
 use lib.Count.{trailingZeros}
 use lib.Ieee.{ofBits, ofFields, toBits, odd, neg, add, sub, mul, div, sum, round, size, span, climb, units, le, lt, eq, ofInt}
@@ -11,6 +11,7 @@ use Rattle.rules.specs.Opening.{axesChecks, openVerdict, fresh, opening}
 use Rattle.rules.specs.Calls.{inOrder, allCosts, sound, askVerdict, tellVerdict, bestVerdict, asking, telling, showing}
 use Rattle.rules.specs.Examples.{given, paper}
 use Rattle.rules.specs.Cases.{casesGiven, casesStated, openingsGiven, openingsStated}
+use Rattle.rules.specs.Answers.{endingsGiven, endingsStated, refusalsGiven, refusalsStated, numbersGiven, numbersStated, axesGiven, axesStated}
 
 -- to unfold this is to compute with floats
 unfoldable pub floats : Unit {0}
@@ -38,3 +39,17 @@ cases = refl
 pub openings : openingsGiven ≡ openingsStated
 unfolding openingsGiven openingsStated axesChecks openVerdict floats
 openings = refl
+
+pub endings : endingsGiven ≡ endingsStated
+unfolding endingsGiven endingsStated rules
+endings = refl
+
+pub refusals : refusalsGiven ≡ refusalsStated
+unfolding refusalsGiven refusalsStated rules inOrder allCosts sound askVerdict tellVerdict bestVerdict
+refusals = refl
+
+pub refusal-numbers : numbersGiven ≡ numbersStated
+refusal-numbers = refl
+
+pub refusal-axes : axesGiven ≡ axesStated
+refusal-axes = refl

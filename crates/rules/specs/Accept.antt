@@ -28,7 +28,7 @@ pick false a b = b
 abbrev pub withPhase : Phase → Search → Search
 withPhase p s = record { setup = s .setup; phase = p; standing = s .standing; gathered = s .gathered; center = s .center; readings = s .readings; best = s .best; counts = s .counts }
 
--- a search that has gathered these vertices
+-- a search whose gathered vertices are vs
 abbrev pub withGathered : List Vertex → Search → Search
 withGathered vs s = record { setup = s .setup; phase = s .phase; standing = s .standing; gathered = pack vs; center = s .center; readings = s .readings; best = s .best; counts = s .counts }
 
@@ -71,8 +71,8 @@ counted contraction c = record { builds = c .builds; reflections = c .reflection
 counted shrink c = record { builds = c .builds; reflections = c .reflections; expansions = c .expansions; contractions = c .contractions; shrinks = c .shrinks + 1; probes = c .probes; unfinished = 0 }
 
 -- k readings more in the unfinished piece: "Open is the readings told in the unfinished iteration or restart build"
-abbrev pub opened : ℕ → Counts → Counts
-opened k c = record { builds = c .builds; reflections = c .reflections; expansions = c .expansions; contractions = c .contractions; shrinks = c .shrinks; probes = c .probes; unfinished = c .unfinished + k }
+abbrev pub addOpen : ℕ → Counts → Counts
+addOpen k c = record { builds = c .builds; reflections = c .reflections; expansions = c .expansions; contractions = c .contractions; shrinks = c .shrinks; probes = c .probes; unfinished = c .unfinished + k }
 
 -- "Probes counts probe readings"
 abbrev pub probedOnce : Counts → Counts
@@ -125,7 +125,7 @@ taken piece v s = finished piece (place (s .standing) (s .setup .n) .point ∷ [
 
 -- k readings more in an unfinished piece, which goes on in phase p
 abbrev pub waiting : Phase → ℕ → Search → Search
-waiting p k s = withPhase p (withCounts (opened k (s .counts)) s)
+waiting p k s = withPhase p (withCounts (addOpen k (s .counts)) s)
 
 -- what trial i of a build adds to Open, after b builds: "in the first build it leaves out the first reading"
 abbrev pub firstOpen : ℕ → ℕ → ℕ

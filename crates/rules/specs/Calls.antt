@@ -6,10 +6,11 @@ use lib.ListN.{getD, replicate}
 use lib.Dec.{leb, ltb, eqb}
 use lib.Ieee.{nan}
 use Rattle.rules.specs.Binary64.{0ᶠ}
+use Rattle.rules.specs.Numbers.{maxCost, maxBudget, maxSpread}
 use Rattle.rules.specs.Simplex.{firstOf, unpack, blank}
 use Rattle.rules.specs.Trial.{trial}
 use Rattle.rules.specs.Accept.{accept}
-use Rattle.rules.specs.Opening.{check}
+use Rattle.rules.specs.Refusals.{check}
 use Rattle.rules.specs.declared.Rule.{Rule}
 use Rattle.rules.specs.declared.Rule.the-variants.{Spread, Moved, Size}
 use Rattle.rules.specs.declared.Phase.{Phase}
@@ -23,10 +24,6 @@ use Rattle.rules.specs.declared.Shown.{Shown}
 use Rattle.rules.specs.declared.Verdict.{Verdict}
 use Rattle.rules.specs.declared.Verdict.the-variants.{Accepted, Refused}
 use Rattle.rules.specs.declared.Refusal.the-variants.{SearchEnded, CostTooHigh, WrongNumber, NoReading, Damaged}
-
--- "A cost is a whole number from 0 to 16,777,215"
-abbrev pub maxCost : ℕ
-maxCost = 16777215
 
 -- "search ended"
 abbrev pub isEnded : Phase → Bool
@@ -79,7 +76,7 @@ allCosts (c ∷ cs) = leb c maxCost && allCosts cs
 
 -- not "a spread E above 4,294,967,295"
 abbrev pub soundRule : Rule → Bool
-soundRule (Spread e) = leb e 4294967295
+soundRule (Spread e) = leb e maxSpread
 soundRule (Moved e) = true
 soundRule (Size e) = true
 
@@ -91,7 +88,7 @@ soundCounts b c = leb (c .builds) b && leb (c .reflections) b && leb (c .expansi
 unfoldable pub sound : Search → Bool
 sound s =
     leb 1 (s .setup .n) && leb (s .setup .n) 8
-    && ltb (s .readings) (s .setup .budget) && soundCounts (s .setup .budget) (s .counts) && leb (s .setup .budget) 1000000
+    && ltb (s .readings) (s .setup .budget) && soundCounts (s .setup .budget) (s .counts) && leb (s .setup .budget) maxBudget
     && soundRule (s .setup .rule) && soundPhase (s .setup .n) (s .counts .builds) (s .phase)
     && inOrder (standingOf s) && inOrder (gatheredOf s)
     && allCosts (s .standing .costs) && allCosts (s .gathered .costs) && leb (s .best .cost) maxCost

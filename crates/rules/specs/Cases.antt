@@ -5,9 +5,10 @@ use Prim.Native.Nat.{ℕ}
 use lib.ListN.{replicate}
 use lib.Ieee.{Float, binary64, ofBits, neg, nan}
 use Rattle.rules.specs.Binary64.{0ᶠ, 1ᶠ, 2ᶠ, 8ᶠ, farthest}
+use Rattle.rules.specs.Numbers.{usual}
 use Rattle.rules.specs.Accept.{run}
 use Rattle.rules.specs.Opening.{zeroAxis, openVerdict, fresh}
-use Rattle.rules.specs.Examples.{½, 𝟏, 1¼, 1½, ¼, usual, exampleAxis, Shows, asks, next}
+use Rattle.rules.specs.Examples.{½, 𝟏, 1¼, 1½, ¼, exampleAxis, Shows, asks, next}
 use Rattle.rules.specs.declared.Axis.{Axis}
 use Rattle.rules.specs.declared.Coefficients.{Coefficients}
 use Rattle.rules.specs.declared.Verdict.{Verdict}
@@ -30,11 +31,11 @@ caseAxis start hi = record { lo = neg 8ᶠ; hi = hi; start = start; step = 1ᶠ 
 abbrev pub twoAxes : Axis → Axis → List Axis
 twoAxes x y = x ∷ y ∷ replicate 6 zeroAxis
 
--- two such axes, the usual coefficients, budget 100
+-- a search over two axes from −8 to hi with step 1, the usual coefficients, budget 100
 abbrev pub caseSearch : Float → Float → RuleChoice → Search
 caseSearch start hi rule = fresh 2 (twoAxes (caseAxis start hi) (caseAxis start hi)) rule usual 100
 
--- the trial after these costs
+-- the trial that `caseSearch` asks after the costs cs
 abbrev pub trialAfter : Float → Float → RuleChoice → List ℕ → Shows
 trialAfter start hi rule cs = next (run (caseSearch start hi rule) cs)
 
@@ -54,11 +55,11 @@ tenth = bits 0x3fb9_9999_9999_999a
 abbrev pub threeAxes : List Axis
 threeAxes = caseAxis tenth tenth ∷ caseAxis 0ᶠ 8ᶠ ∷ caseAxis 0ᶠ 8ᶠ ∷ replicate 5 zeroAxis
 
--- a search over them
+-- a search over three axes whose centroid rounds past hi
 abbrev pub roundedSearch : Search
 roundedSearch = fresh 3 threeAxes Unnamed usual 100
 
--- what the rules give
+-- the trials that the rules give, case by case
 unfoldable pub casesGiven : List Shows
 casesGiven =
     -- the worst vertex (2,2) is left out of c: r is (3,3)
@@ -81,6 +82,8 @@ casesGiven =
     ∷ trialAfter 2ᶠ 8ᶠ (Named (Moved farthest)) (30 ∷ 20 ∷ 10 ∷ [])
     ∷ trialAfter 2ᶠ 8ᶠ (Named (Moved 1ᶠ)) (30 ∷ 20 ∷ 10 ∷ 15 ∷ [])
     ∷ trialAfter 2ᶠ 8ᶠ (Named (Moved (bits 0x3ff0_0000_0000_0001))) (30 ∷ 20 ∷ 10 ∷ 15 ∷ [])
+    -- P11 by the opening: with spread 100 the next trial is r, with 101 a probe
+    ∷ trialAfter 0ᶠ 8ᶠ (Named (Spread 100)) (30 ∷ 20 ∷ 10 ∷ []) ∷ trialAfter 0ᶠ 8ᶠ (Named (Spread 101)) (30 ∷ 20 ∷ 10 ∷ [])
     -- size: x1 is (2,3), D is 13, and the farthest vertex is 2 away: 0.25² · 13 is less, 0.5² · 13 is not
     ∷ trialAfter 2ᶠ 8ᶠ (Named (Size (bits ¼))) (30 ∷ 20 ∷ 10 ∷ [])
     ∷ trialAfter 2ᶠ 8ᶠ (Named (Size (bits ½))) (30 ∷ 20 ∷ 10 ∷ [])
@@ -91,7 +94,7 @@ casesGiven =
     ∷ next programSearch ∷ next (run programSearch (4 ∷ [])) ∷ next (run programSearch (4 ∷ 6 ∷ [])) ∷ next (run programSearch (4 ∷ 6 ∷ 4 ∷ []))
     ∷ []
 
--- what document 01 says, line by line as above
+-- what document 01 says of each case of `casesGiven`, in its order
 unfoldable pub casesStated : List Shows
 casesStated =
     asks 0x4008_0000_0000_0000 0x4008_0000_0000_0000
@@ -107,6 +110,7 @@ casesStated =
     ∷ asks 0x4008_0000_0000_0000 0x4008_0000_0000_0000
     ∷ asks 0x4000_0000_0000_0000 0x4010_0000_0000_0000
     ∷ asks 0x4000_0200_0000_0000 0x4008_0000_0000_0000
+    ∷ asks 𝟏 𝟏 ∷ asks 0x3f50_0000_0000_0000 𝟏
     ∷ asks 0x4008_0000_0000_0000 0x4008_0000_0000_0000
     ∷ asks 0x4000_0200_0000_0000 0x4008_0000_0000_0000
     ∷ asks 𝟏 𝟏
@@ -128,15 +132,15 @@ withChi chi = record { alpha = 1ᶠ; chi = chi; beta = bits ½; sigma = bits ½ 
 abbrev pub verdictOn : Axis → Axis → RuleChoice → Verdict
 verdictOn x y rule = openVerdict 2 (twoAxes x y) rule usual 100
 
--- the verdict on the opening of a case
+-- the verdict on the opening of `caseSearch`, with budget 100
 abbrev pub caseVerdict : Float → Float → RuleChoice → Verdict
 caseVerdict start hi rule = verdictOn (caseAxis start hi) (caseAxis start hi) rule
 
--- the verdict on the first case's axes with other coefficients and another budget
+-- the verdict on two axes from −8 to 8 with step 1, with other coefficients and another budget
 abbrev pub verdictWith : RuleChoice → Coefficients → ℕ → Verdict
 verdictWith rule c budget = openVerdict 2 (twoAxes (stepAxis 1ᶠ) (stepAxis 1ᶠ)) rule c budget
 
--- what the rules give
+-- the verdicts that the rules give, opening by opening
 unfoldable pub openingsGiven : List Verdict
 openingsGiven =
     -- P1 and P12, and the cases above
@@ -152,6 +156,8 @@ openingsGiven =
     ∷ openVerdict 0 oneAxis Unnamed usual 100 ∷ openVerdict 9 oneAxis Unnamed usual 100
     -- 2: a NaN; but records past n are not read
     ∷ verdictOn (stepAxis 1ᶠ) (stepAxis nan) Unnamed ∷ openVerdict 1 (twoAxes (stepAxis 1ᶠ) (stepAxis nan)) Unnamed usual 100
+    -- 2: a start that is a NaN is refused by 2, and not by 3; 3 on axis 1 comes before 2 on axis 2
+    ∷ verdictOn (stepAxis 1ᶠ) (caseAxis nan 8ᶠ) Unnamed ∷ verdictOn (caseAxis 0ᶠ (bits 0xc022_0000_0000_0000)) (caseAxis nan 8ᶠ) Unnamed
     -- 3: lo = hi, start > hi, step 0
     ∷ caseVerdict (neg 8ᶠ) (neg 8ᶠ) Unnamed ∷ caseVerdict 2ᶠ 1ᶠ Unnamed ∷ verdictOn (stepAxis 0ᶠ) (stepAxis 1ᶠ) Unnamed
     -- 4: 8 is half of hi − lo, the next number is more, and comes before axis 2's refusal; 8 + 2⁻⁶⁰ equals 8
@@ -165,7 +171,7 @@ openingsGiven =
     ∷ verdictWith Unnamed usual 2 ∷ verdictWith Unnamed usual 3 ∷ verdictWith Unnamed usual 1000000 ∷ verdictWith Unnamed usual 1000001
     ∷ []
 
--- what the table says, line by line as above
+-- what the table says of each opening of `openingsGiven`, in its order
 unfoldable pub openingsStated : List Verdict
 openingsStated =
     Accepted
@@ -178,6 +184,7 @@ openingsStated =
     ∷ Accepted
     ∷ Refused AxisCount ∷ Refused AxisCount
     ∷ Refused (OutOfRange 2) ∷ Accepted
+    ∷ Refused (OutOfRange 2) ∷ Refused (BadLimits 1)
     ∷ Refused (BadLimits 1) ∷ Refused (BadLimits 1) ∷ Refused (BadLimits 1)
     ∷ Accepted ∷ Refused (BadStep 1)
     ∷ Refused (BadStep 2)

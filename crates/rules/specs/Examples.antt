@@ -4,14 +4,14 @@ use mathlib.Core.List.{List, [], _∷_}
 use Prim.Native.Nat.{ℕ}
 use lib.ListN.{replicate, getD}
 use lib.Ieee.{Float, binary64, ofBits, toBits, neg}
-use Rattle.rules.specs.Binary64.{0ᶠ, 1ᶠ, 2ᶠ, 8ᶠ}
+use Rattle.rules.specs.Binary64.{0ᶠ, 1ᶠ, 8ᶠ}
+use Rattle.rules.specs.Numbers.{usual}
 use Rattle.rules.specs.Simplex.{place, unpack}
 use Rattle.rules.specs.Trial.{trial}
 use Rattle.rules.specs.Stop.{spreadMet}
 use Rattle.rules.specs.Accept.{run}
 use Rattle.rules.specs.Opening.{zeroAxis, fresh}
 use Rattle.rules.specs.declared.Axis.{Axis}
-use Rattle.rules.specs.declared.Coefficients.{Coefficients}
 use Rattle.rules.specs.declared.Search.{Search}
 use Rattle.rules.specs.declared.Vertex.{Vertex}
 use Rattle.rules.specs.declared.Rule.the-variants.{Spread}
@@ -40,10 +40,6 @@ abbrev pub 1¼ : ℕ
 -- the bits of 1.5
 abbrev pub 1½ : ℕ
 1½ = 0x3ff8_0000_0000_0000
-
--- the "usual coefficients": 1, 2, 1/2, 1/2
-abbrev pub usual : Coefficients
-usual = record { alpha = 1ᶠ; chi = 2ᶠ; beta = ofBits binary64 ½; sigma = ofBits binary64 ½ }
 
 -- "lo −8, hi 8, start 0, step 1", or another hi
 abbrev pub exampleAxis : Float → Axis
@@ -83,7 +79,7 @@ placeAfter i cs = standsAt (place (afterP1 cs .standing) i)
 abbrev pub spreadAfter : ℕ → Shows
 spreadAfter e = meets (spreadMet 2 e (unpack 3 (afterP1 [] .standing)))
 
--- what the rules give
+-- what the rules give, example by example
 unfoldable pub given : List Shows
 given =
     -- P1: trials (0,0), (1,0), (0,1)
@@ -106,7 +102,7 @@ given =
     ∷ next (run (exampleSearch (ofBits binary64 1¼)) (30 ∷ 20 ∷ 10 ∷ 5 ∷ []))
     ∷ []
 
--- what document 01 says, line by line as above
+-- what document 01 says of each example of `given`, in its order
 unfoldable pub paper : List Shows
 paper =
     asks 0 0 ∷ asks 𝟏 0 ∷ asks 0 𝟏

@@ -4,9 +4,10 @@ use mathlib.Core.List.{List, [], _∷_, _++_}
 use Prim.Native.Nat.{ℕ, _+_, _<_, _≤_}
 use lib.ListN.{length, getD, take}
 use lib.Dec.{leb, eqb}
+use Rattle.rules.specs.Numbers.{maxCost}
 use Rattle.rules.specs.Trial.{trial}
 use Rattle.rules.specs.Accept.{run}
-use Rattle.rules.specs.Calls.{isEnded, maxCost, asking, telling, showing}
+use Rattle.rules.specs.Calls.{isEnded, asking, telling, showing}
 use Rattle.rules.specs.declared.Vertex.{Vertex}
 use Rattle.rules.specs.declared.Search.{Search}
 
@@ -38,7 +39,7 @@ history1 o h ask = h
 history1 o h (tell k c) = cond (joins o h k c) (h ++ (c ∷ [])) h
 history1 o h best = h
 
--- the history after further calls, h being that before them
+-- the history after the calls cs, h being the history before them
 unfoldable pub historyFrom : Search → List ℕ → List Call → List ℕ
 historyFrom o h [] = h
 historyFrom o h (c ∷ cs) = historyFrom o (history1 o h c) cs

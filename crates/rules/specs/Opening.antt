@@ -1,5 +1,5 @@
 -- "Refused calls", the rows of the opening: its checks in table order, and the search that it gives.
-use mathlib.Core.Bool.{Bool, true, false, not, _&&_}
+use mathlib.Core.Bool.{Bool, not, _&&_}
 use mathlib.Core.List.{List, [], _++_, map}
 use Prim.Native.Nat.{ℕ, zero, suc, _+_, _-_}
 use lib.ListN.{getD, take, replicate}
@@ -7,7 +7,9 @@ use lib.Dec.{leb}
 use lib.Ieee.{Float, neg, eq}
 use Rattle.rules.specs.Binary64.{0ᶠ, 1ᶠ, 2ᶠ, 4ᶠ, 8ᶠ, farthest, _⊕_, _⊖_, _⊘_, _≤ᶠ_, _<ᶠ_}
 use Rattle.rules.specs.Simplex.{firstOf, pack, blank}
+use Rattle.rules.specs.Numbers.{maxBudget, maxSpread}
 use Rattle.rules.specs.Trial.{noAxis}
+use Rattle.rules.specs.Refusals.{check}
 use Rattle.rules.specs.declared.Axis.{Axis}
 use Rattle.rules.specs.declared.Coefficients.{Coefficients}
 use Rattle.rules.specs.declared.Rule.{Rule}
@@ -23,43 +25,7 @@ use Rattle.rules.specs.declared.Counts.{Counts}
 use Rattle.rules.specs.declared.Opened.{Opened}
 use Rattle.rules.specs.declared.Verdict.{Verdict}
 use Rattle.rules.specs.declared.Verdict.the-variants.{Accepted, Refused}
-use Rattle.rules.specs.declared.Refusal.{Refusal}
-use Rattle.rules.specs.declared.Refusal.the-variants.{AxisCount, OutOfRange, BadLimits, BadStep, BadCoefficient, BadThreshold, BadBudget, SearchEnded, CostTooHigh, WrongNumber, NoReading, Damaged}
-
--- the column "number" of the table, for each refusal
-abbrev pub numberOf : Refusal → ℕ
-numberOf AxisCount = 1
-numberOf (OutOfRange axis) = 2
-numberOf (BadLimits axis) = 3
-numberOf (BadStep axis) = 4
-numberOf BadCoefficient = 5
-numberOf BadThreshold = 6
-numberOf BadBudget = 7
-numberOf SearchEnded = 8
-numberOf CostTooHigh = 9
-numberOf WrongNumber = 10
-numberOf NoReading = 11
-numberOf Damaged = 12
-
--- "Numbers 2 to 4 come with the axis, from 1"; 0 where there is none
-abbrev pub axisOf : Refusal → ℕ
-axisOf AxisCount = 0
-axisOf (OutOfRange axis) = axis
-axisOf (BadLimits axis) = axis
-axisOf (BadStep axis) = axis
-axisOf BadCoefficient = 0
-axisOf BadThreshold = 0
-axisOf BadBudget = 0
-axisOf SearchEnded = 0
-axisOf CostTooHigh = 0
-axisOf WrongNumber = 0
-axisOf NoReading = 0
-axisOf Damaged = 0
-
--- "Checks run in table order": one of them, what it refuses with where it fails, and the verdict of those after it
-abbrev pub check : Bool → Refusal → Verdict → Verdict
-check true r v = v
-check false r v = Refused r
+use Rattle.rules.specs.declared.Refusal.the-variants.{AxisCount, OutOfRange, BadLimits, BadStep, BadCoefficient, BadThreshold, BadBudget}
 
 -- refusal 2: "fails −1,048,576 ≤ v ≤ 1,048,576 (so NaN too)"
 abbrev pub inRange : Float → Bool
@@ -95,7 +61,7 @@ inCoefficients c =
 
 -- refusal 6: "for spread, E not 1 to 4,294,967,295; for moved and size, not 0 < E ≤ 1,048,576"
 abbrev pub inThreshold : Rule → Bool
-inThreshold (Spread e) = leb 1 e && leb e 4294967295
+inThreshold (Spread e) = leb 1 e && leb e maxSpread
 inThreshold (Moved e) = (0ᶠ <ᶠ e) && (e ≤ᶠ farthest)
 inThreshold (Size e) = (0ᶠ <ᶠ e) && (e ≤ᶠ farthest)
 
@@ -111,7 +77,7 @@ openVerdict n axes rule c budget =
     (axesChecks n 0 axes
     (check (inCoefficients c) BadCoefficient
     (check (inThreshold (ruleOf rule)) BadThreshold
-    (check (leb (n + 1) budget && leb budget 1000000) BadBudget Accepted))))
+    (check (leb (n + 1) budget && leb budget maxBudget) BadBudget Accepted))))
 
 -- an axis record of zeros
 abbrev pub zeroAxis : Axis

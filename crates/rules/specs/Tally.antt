@@ -77,7 +77,7 @@ abbrev pub isOpen : List Piece → ℕ → ℕ → Bool
 isOpen ps probe k = isNone ps && eqb probe 0 && not (eqb k 0)
 
 -- "Open is the readings told in the unfinished iteration or restart build; in the first build it leaves out the first reading":
--- k of them before the readings of h
+-- after the readings of h, k being open before them
 unfoldable pub openIn : ℕ → Search → List ℕ → ℕ
 openIn k s [] = k
 openIn k s (c ∷ cs) = openIn (cond (isOpen (finishes (s .phase) s c) (isProbe (s .phase)) (s .readings)) (k + 1) 0) (accept s c) cs
@@ -90,6 +90,6 @@ readingsBy n c = 1 + n * c .builds + c .reflections + 2 * (c .expansions + c .co
 abbrev pub Ends : Search → List ℕ → ℕ → Type 0
 Ends o h c = finishes (run o h .phase) (run o h) c ≡ [] → ⊥
 
--- it ends a piece of the kind p
+-- the reading c, told after h, ends a piece of the kind p
 abbrev pub EndsIn : Piece → Search → List ℕ → ℕ → Type 0
 EndsIn p o h c = finishes (run o h .phase) (run o h) c ≡ p ∷ []

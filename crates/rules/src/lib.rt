@@ -1,5 +1,22 @@
-// The types of document 01, "Specification of the build and its rules". The rules themselves are the
-// definitions in specs/; this crate has no function.
+// The types of document 01, "Specification of the build and its rules", and the numbers of it that code needs. The rules
+// themselves are the definitions in specs/; this crate has no function.
+
+// The largest cost, which the camera tells for a dark frame; `maxCost` of specs/Numbers.
+pub const MAX_COST: u64 = 16777215;
+
+// The largest budget; `maxBudget` of specs/Numbers.
+pub const MAX_BUDGET: u64 = 1000000;
+
+// The largest threshold of the rule spread; `maxSpread` of specs/Numbers.
+pub const MAX_SPREAD: u64 = 4294967295;
+
+// The usual coefficients; `usual` of specs/Numbers.
+pub const USUAL: Coefficients = Coefficients {
+    alpha: 1.0,
+    chi: 2.0,
+    beta: 0.5,
+    sigma: 0.5,
+};
 
 // One axis record: its limits, the position where it starts, and the first step along it.
 pub struct Axis {

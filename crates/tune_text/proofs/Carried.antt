@@ -8,12 +8,13 @@ use native.Mathlib.Omega.{arith}
 use lib.ListN.{length, getD}
 use lib.Dec.{leb, ltb, eqb}
 use borrow.Author.Tests.{eq-eqb, eqb-false}
-use Rattle.rules.specs.Opening.{numberOf, check, allInRange, inLimits, inStep, axesChecks, inCoefficients, inThreshold, openVerdict, opening}
+use Rattle.rules.specs.Numbers.{maxCost, usual}
+use Rattle.rules.specs.Refusals.{numberOf, check}
+use Rattle.rules.specs.Opening.{allInRange, inLimits, inStep, axesChecks, inCoefficients, inThreshold, openVerdict, opening}
 use Rattle.rules.specs.Trial.{noAxis}
-use Rattle.rules.specs.Calls.{maxCost, isEnded, undamaged, askVerdict, tellVerdict, asking, telling, showing}
-use Rattle.rules.specs.History.{Call, tell, after1, after as called, history}
+use Rattle.rules.specs.Calls.{isEnded, undamaged, askVerdict, tellVerdict, asking, telling, showing}
+use Rattle.rules.specs.History.{Call, tell, after1, after, history}
 use Rattle.rules.specs.Claims.{Claims}
-use Rattle.rules.specs.Examples.{usual}
 use Rattle.rules.specs.declared.Axis.{Axis}
 use Rattle.rules.specs.declared.Rule.the-variants.{Spread}
 use Rattle.rules.specs.declared.RuleChoice.the-variants.{Named}
@@ -28,10 +29,10 @@ use Rattle.rules.proofs.Laws.Tests.{cond-elim}
 use Rattle.rules.proofs.Runs.Calling.{told-verdict}
 use Rattle.rules.proofs.Claim.{claim}
 use Rattle.rules.proofs.Callers.{after-snoc, check-elim, sound-always}
-use Rattle.tune_text.specs.Fields.{whole, hexadecimal, isLine, values}
+use Rattle.tune_text.specs.Fields.{wholeNumber, hexadecimal, isLine, values}
 use Rattle.tune_text.specs.Lines.{bestLine, endLine}
-use Rattle.tune_text.specs.Reading.{Turned, nothingRead, openingOf, openedBy as turnedBy, opened, axisLines, furnished, requestOf, axisOf, withAxis, toldBy as toldWith, answerOf, costTold, lineRead, endingOf, bestBy, searchEnd}
-use Rattle.tune_text.specs.Steps.{firstState, stepping, after}
+use Rattle.tune_text.specs.Reading.{Turned, nothingRead, openingOf, turnOpened, openingTurn, axisLines, axesRead, requestOf, axisFrom, withAxis, turnTold, answerOf, costTold, lineRead, endingOf, bestBy, searchEnd}
+use Rattle.tune_text.specs.Steps.{firstState, stepping, stateAfter}
 use Rattle.tune_text.specs.Carried.{Carried}
 use Rattle.tune_text.specs.declared.Progress.{Progress}
 use Rattle.tune_text.specs.declared.Request.{Request}
@@ -56,19 +57,19 @@ axes-kept : (k : ℕ) (q : Request) (s : Search) → Kept (record { stage = Axes
 axes-kept k q s e = let z : _≡_ {A = ℕ} 0 1 = cc in absurd (omega arith)
 
 -- the opening makes its search by no call
-opened-kept : (q : Request) → Kept (opened q .progress)
-unfolding called
-opened-kept q = go (openingOf q .verdict) refl
+opening-turn-kept : (q : Request) → Kept (openingTurn q .progress)
+unfolding after
+opening-turn-kept q = go (openingOf q .verdict) refl
   where
-    go : (v : Verdict) → openingOf q .verdict ≡ v → Kept (turnedBy v q (openingOf q .search) .progress)
+    go : (v : Verdict) → openingOf q .verdict ≡ v → Kept (turnOpened v q (openingOf q .search) .progress)
     go Accepted e c = record { accepted = e; calls = []; made = refl }
     go (Refused r) e c = done-kept q (openingOf q .search) c
 
 -- the line before: the next axis line follows, or the opening
-furnished-kept : (k : ℕ) (q : Request) (s : Search) → Kept (furnished k q s .progress)
-unfolding furnished
-furnished-kept k q s =
-    cond-elim (λ (t : Turned). Kept (t .progress)) (ltb k (axisLines (q .n))) (λ e. axes-kept k q s) (λ e. opened-kept q)
+axes-read-kept : (k : ℕ) (q : Request) (s : Search) → Kept (axesRead k q s .progress)
+unfolding axesRead
+axes-read-kept k q s =
+    cond-elim (λ (t : Turned). Kept (t .progress)) (ltb k (axisLines (q .n))) (λ e. axes-kept k q s) (λ e. opening-turn-kept q)
 
 -- a cost line is one call more
 told-kept : (p : Progress) (cost : ℕ) → Carried p → Kept (costTold p cost .progress)
@@ -78,7 +79,7 @@ told-kept p cost c = go (answerOf p cost .verdict)
     asked : Call
     asked = tell (asking (p .search) .number) cost
 
-    go : (v : Verdict) → Kept (toldWith v p (asking (p .search)) (answerOf p cost .search) cost .progress)
+    go : (v : Verdict) → Kept (turnTold v p (asking (p .search)) (answerOf p cost .search) cost .progress)
     go Accepted e =
         record {
           accepted = c .accepted;
@@ -91,14 +92,14 @@ told-kept p cost c = go (answerOf p cost .verdict)
 line-kept : (stage : Stage) (p : Progress) (i : ℕ) (line : List ℕ) → p .stage ≡ stage → Kept p → Kept (lineRead stage p i line .progress)
 unfolding lineRead
 line-kept Head p i line e h =
-    cond-elim (λ (t : Turned). Kept (t .progress)) (isLine whole 3 line)
-    (λ w. furnished-kept 0 (requestOf (values whole line)) (p .search)) (λ w. done-kept (p .request) (p .search))
+    cond-elim (λ (t : Turned). Kept (t .progress)) (isLine wholeNumber 3 line)
+    (λ w. axes-read-kept 0 (requestOf (values wholeNumber line)) (p .search)) (λ w. done-kept (p .request) (p .search))
 line-kept (Axes k) p i line e h =
     cond-elim (λ (t : Turned). Kept (t .progress)) (isLine hexadecimal 4 line)
-    (λ w. furnished-kept (suc k) (withAxis k (axisOf (values hexadecimal line)) (p .request)) (p .search)) (λ w. done-kept (p .request) (p .search))
+    (λ w. axes-read-kept (suc k) (withAxis k (axisFrom (values hexadecimal line)) (p .request)) (p .search)) (λ w. done-kept (p .request) (p .search))
 line-kept Costs p i line e h =
-    cond-elim (λ (t : Turned). Kept (t .progress)) (isLine whole 1 line)
-    (λ w. told-kept p (getD (values whole line) 0 0) (h e)) (λ w. done-kept (p .request) (p .search))
+    cond-elim (λ (t : Turned). Kept (t .progress)) (isLine wholeNumber 1 line)
+    (λ w. told-kept p (getD (values wholeNumber line) 0 0) (h e)) (λ w. done-kept (p .request) (p .search))
 line-kept Done p i line e h = h
 
 -- a step
@@ -109,13 +110,13 @@ step-kept bytes s h =
     (λ d. h) (λ d l. last) (λ d l o. last) (λ d l o e. line-kept (s .progress .stage) (s .progress) (s .line) _ refl h) (λ d l o e. last)
 
 -- a run of steps
-run-kept : (k : ℕ) (bytes : List ℕ) (s : State) → Kept (s .progress) → Kept (after k bytes s .progress)
-unfolding after
+run-kept : (k : ℕ) (bytes : List ℕ) (s : State) → Kept (s .progress) → Kept (stateAfter k bytes s .progress)
+unfolding stateAfter
 run-kept zero bytes s h = h
 run-kept (suc k) bytes s h = run-kept k bytes (stepping bytes s .state) (step-kept bytes s h)
 
 -- after any number of steps, where costs are read, an accepted opening and calls have made the search
-pub carried : (bytes : List ℕ) (k : ℕ) → after k bytes firstState .progress .stage ≡ Costs → Carried (after k bytes firstState .progress)
+pub carried : (bytes : List ℕ) (k : ℕ) → stateAfter k bytes firstState .progress .stage ≡ Costs → Carried (stateAfter k bytes firstState .progress)
 unfolding firstState nothingRead
 carried bytes k = run-kept k bytes firstState (λ e. let z : _≡_ {A = ℕ} 0 1 = cc in absurd (omega arith))
 

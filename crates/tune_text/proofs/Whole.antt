@@ -14,8 +14,8 @@ use Rattle.rules.proofs.Laws.Tests.{cond-elim}
 use Rattle.tune_text.specs.Fields.{newline, cut}
 use Rattle.tune_text.specs.Lines.{badLine}
 use Rattle.tune_text.specs.Reading.{Turned, nothingRead, lineRead, lastLine, isOver, isDone}
-use Rattle.tune_text.specs.Transcript.{longest, stopped, told, transcript}
-use Rattle.tune_text.specs.Steps.{firstState, lineAfter, finished, passed, stepping, after, printed, stepsLeft}
+use Rattle.tune_text.specs.Transcript.{longest, stopped, linesFrom, transcript}
+use Rattle.tune_text.specs.Steps.{firstState, lineAfter, lastStep, passed, stepping, stateAfter, printed, stepsLeft}
 use Rattle.tune_text.specs.Handed.{written}
 use Rattle.tune_text.specs.declared.Progress.{Progress}
 use Rattle.tune_text.specs.declared.State.{State}
@@ -27,51 +27,51 @@ use Rattle.tune_text.proofs.Laws.Running.{step-cases, some-left, few-le
 -- ---- the end
 
 -- all is done after as many steps as are left
-done-after : (k : ℕ) (bytes : List ℕ) (s : State) → stepsLeft bytes s ≤ k → isDone (after k bytes s .progress .stage) ≡ true
-unfolding after
+done-after : (k : ℕ) (bytes : List ℕ) (s : State) → stepsLeft bytes s ≤ k → isDone (stateAfter k bytes s .progress .stage) ≡ true
+unfolding stateAfter
 done-after zero bytes s h = left-done bytes s h
 done-after (suc k) bytes s h = done-after k bytes (stepping bytes s .state) (omega (arith, left-less bytes s))
 
 -- the steps end within the input's length and one
-pub ends : (bytes : List ℕ) (k : ℕ) → length bytes < k → isDone (after k bytes firstState .progress .stage) ≡ true
+pub ends : (bytes : List ℕ) (k : ℕ) → length bytes < k → isDone (stateAfter k bytes firstState .progress .stage) ≡ true
 unfolding firstState nothingRead
 ends bytes k h = done-after k bytes firstState (omega arith)
 
--- ---- what is told
+-- ---- the lines that are printed from a line on
 
--- nothing is told once all is done
-told-done : (p : Progress) (i : ℕ) (lines : List (List ℕ)) → isDone (p .stage) ≡ true → told p i lines ≡ []
-unfolding told
-told-done p i [] d = refl
-told-done p i (x ∷ []) d = rw d
-told-done p i (x ∷ (y ∷ ys)) d = rw d
+-- nothing is printed once all is done
+from-done : (p : Progress) (i : ℕ) (lines : List (List ℕ)) → isDone (p .stage) ≡ true → linesFrom p i lines ≡ []
+unfolding linesFrom
+from-done p i [] d = refl
+from-done p i (x ∷ []) d = rw d
+from-done p i (x ∷ (y ∷ ys)) d = rw d
 
 -- the last line of a search that has ended
-told-over : (p : Progress) (i : ℕ) (lines : List (List ℕ)) → 0 < length lines → isDone (p .stage) ≡ false → isOver (p .stage) (p .search) ≡ true
-    → told p i lines ≡ lastLine (p .stage) (p .search)
-unfolding told
-told-over p i [] h d o = absurd (omega arith)
-told-over p i (x ∷ []) h d o = rw (d, o)
-told-over p i (x ∷ (y ∷ ys)) h d o = rw (d, o)
+from-over : (p : Progress) (i : ℕ) (lines : List (List ℕ)) → 0 < length lines → isDone (p .stage) ≡ false → isOver (p .stage) (p .search) ≡ true
+    → linesFrom p i lines ≡ lastLine (p .stage) (p .search)
+unfolding linesFrom
+from-over p i [] h d o = absurd (omega arith)
+from-over p i (x ∷ []) h d o = rw (d, o)
+from-over p i (x ∷ (y ∷ ys)) h d o = rw (d, o)
 
 -- a whole line, and what follows
-told-line : (p : Progress) (i : ℕ) (line : List ℕ) (rest : List (List ℕ)) → 0 < length rest → isDone (p .stage) ≡ false → isOver (p .stage) (p .search) ≡ false
-    → told p i (line ∷ rest) ≡ lineRead (p .stage) p i line .line ++ told (lineRead (p .stage) p i line .progress) (suc i) rest
-unfolding told
-told-line p i line [] h d o = absurd (omega arith)
-told-line p i line (y ∷ ys) h d o = rw (d, o)
+from-line : (p : Progress) (i : ℕ) (line : List ℕ) (rest : List (List ℕ)) → 0 < length rest → isDone (p .stage) ≡ false → isOver (p .stage) (p .search) ≡ false
+    → linesFrom p i (line ∷ rest) ≡ lineRead (p .stage) p i line .line ++ linesFrom (lineRead (p .stage) p i line .progress) (suc i) rest
+unfolding linesFrom
+from-line p i line [] h d o = absurd (omega arith)
+from-line p i line (y ∷ ys) h d o = rw (d, o)
 
 -- what stands after the last newline
-told-last : (p : Progress) (i : ℕ) (line : List ℕ) → isDone (p .stage) ≡ false → isOver (p .stage) (p .search) ≡ false
-    → told p i (line ∷ []) ≡ stopped p i line
-unfolding told
-told-last p i line d o = rw (d, o)
+from-last : (p : Progress) (i : ℕ) (line : List ℕ) → isDone (p .stage) ≡ false → isOver (p .stage) (p .search) ≡ false
+    → linesFrom p i (line ∷ []) ≡ stopped p i line
+unfolding linesFrom
+from-last p i line d o = rw (d, o)
 
 -- ---- the steps from any state
 
 -- a step that prints a last line is the last that prints
-alone : (k : ℕ) (bytes : List ℕ) (s : State) (line : List ℕ) → written (finished s line .text) ++ printed k bytes (finished s line .state) ≡ line
-alone k bytes s line = rw (written-text line, printed-done k bytes (finished s line .state) refl, append-nil)
+alone : (k : ℕ) (bytes : List ℕ) (s : State) (line : List ℕ) → written (lastStep s line .text) ++ printed k bytes (lastStep s line .state) ≡ line
+alone k bytes s line = rw (written-text line, printed-done k bytes (lastStep s line .state) refl, append-nil)
 
 -- the line after a line of an input that is read
 line-after : (i : ℕ) → i ≤ longest → lineAfter i ≡ suc i
@@ -83,29 +83,29 @@ left-after n j bytes =
     let e : n + suc j ≡ n + j + 1 = omega arith in
     rw (drop-drop, e)
 
--- the steps that are left print what is told from this line on
+-- the steps that are left print the lines from this line on
 rest : (k : ℕ) (bytes : List ℕ) (s : State) → length bytes ≤ longest → s .line ≤ s .position + 1 → stepsLeft bytes s ≤ k
-    → printed k bytes s ≡ told (s .progress) (s .line) (cut newline (drop (s .position) bytes))
+    → printed k bytes s ≡ linesFrom (s .progress) (s .line) (cut newline (drop (s .position) bytes))
 unfolding printed
-rest zero bytes s f g h = rw (told-done (s .progress) (s .line) (cut newline (drop (s .position) bytes)) (left-done bytes s h))
+rest zero bytes s f g h = rw (from-done (s .progress) (s .line) (cut newline (drop (s .position) bytes)) (left-done bytes s h))
 rest (suc k) bytes s f g h =
     let left : List ℕ = drop (s .position) bytes in
     let j : ℕ = indexOf newline left in
     let line : List ℕ = take j left in
     let t : Turned = lineRead (s .progress .stage) (s .progress) (s .line) line in
     let lines : List (List ℕ) = cut newline left in
-    step-cases bytes s (λ (r : Stepped). written (r .text) ++ printed k bytes (r .state) ≡ told (s .progress) (s .line) lines)
-    (λ d. rw (printed-done k bytes s d, told-done (s .progress) (s .line) lines d))
+    step-cases bytes s (λ (r : Stepped). written (r .text) ++ printed k bytes (r .state) ≡ linesFrom (s .progress) (s .line) lines)
+    (λ d. rw (printed-done k bytes s d, from-done (s .progress) (s .line) lines d))
     (λ d l. absurd (omega arith))
     (λ d l o.
-    rw (told-over (s .progress) (s .line) lines (cut-some newline left) d o) (alone k bytes s (lastLine (s .progress .stage) (s .progress .search))))
+    rw (from-over (s .progress) (s .line) lines (cut-some newline left) d o) (alone k bytes s (lastLine (s .progress .stage) (s .progress .search))))
     (λ d l o e.
     let fewer : j < length bytes - s .position = rw length-drop at e in
     let more : lineAfter (s .line) ≡ suc (s .line) = line-after (s .line) (omega arith) in
     let few = few-left bytes (passed s j t .state) in
     rw (written-text (t .line), rest k bytes (passed s j t .state) f (rw more (omega arith)) (omega (arith, some-left bytes s d)), more)
-    (rw (cut-line newline left e, told-line (s .progress) (s .line) line (cut newline (drop (suc j) left)) (cut-some newline (drop (suc j) left)) d o, left-after (s .position) j bytes)))
-    (λ d l o e. rw (cut-last newline left e, told-last (s .progress) (s .line) left d o) (alone k bytes s (stopped (s .progress) (s .line) left)))
+    (rw (cut-line newline left e, from-line (s .progress) (s .line) line (cut newline (drop (suc j) left)) (cut-some newline (drop (suc j) left)) d o, left-after (s .position) j bytes)))
+    (λ d l o e. rw (cut-last newline left e, from-last (s .progress) (s .line) left d o) (alone k bytes s (stopped (s .progress) (s .line) left)))
 
 -- a long input prints `bad 0` alone
 long : (k : ℕ) (bytes : List ℕ) (s : State) → isDone (s .progress .stage) ≡ false → longest < length bytes → printed (suc k) bytes s ≡ badLine 0
@@ -129,11 +129,11 @@ whole bytes (suc k) h =
 
 -- the same of any run of steps after which all is done, however many they are and however they are taken together
 pub whole-at-end :
-    (bytes : List ℕ) (k : ℕ) → isDone (after k bytes firstState .progress .stage) ≡ true → printed k bytes firstState ≡ transcript bytes
+    (bytes : List ℕ) (k : ℕ) → isDone (stateAfter k bytes firstState .progress .stage) ≡ true → printed k bytes firstState ≡ transcript bytes
 whole-at-end bytes k d =
     let more : ℕ = suc (length bytes) in
     let all : printed (k + more) bytes firstState ≡ transcript bytes = whole bytes (k + more) (omega arith) in
     sym (append-nil (printed k bytes firstState))
-    ∙ ap (λ (l : List ℕ). printed k bytes firstState ++ l) (sym (printed-done more bytes (after k bytes firstState) d))
+    ∙ ap (λ (l : List ℕ). printed k bytes firstState ++ l) (sym (printed-done more bytes (stateAfter k bytes firstState) d))
     ∙ sym (printed-join k more bytes firstState)
     ∙ all

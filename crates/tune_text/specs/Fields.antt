@@ -1,9 +1,10 @@
 -- "The program", the lines of the input: how a text is cut into lines and a line into fields, and what number a field is.
 use mathlib.Core.Bool.{Bool, true, cond, _&&_}
 use mathlib.Core.List.{List, [], _∷_, map}
-use Prim.Native.Nat.{ℕ, _+_, _*_, _-_}
+use Prim.Native.Nat.{ℕ, _+_, _*_}
 use lib.ListN.{length}
 use lib.Dec.{leb, ltb, eqb}
+use Rattle.numerals.specs.Digits.{digitOf}
 
 -- the byte that "ends every line"
 abbrev pub newline : ℕ
@@ -13,7 +14,7 @@ newline = 10
 abbrev pub space : ℕ
 space = 32
 
--- a byte in front of the first piece
+-- the byte x put in front of the first piece of a cut text
 abbrev pub onto : ℕ → List (List ℕ) → List (List ℕ)
 onto x [] = (x ∷ []) ∷ []
 onto x (p ∷ ps) = (x ∷ p) ∷ ps
@@ -23,16 +24,12 @@ unfoldable pub cut : ℕ → List ℕ → List (List ℕ)
 cut b [] = [] ∷ []
 cut b (x ∷ xs) = cond (eqb x b) ([] ∷ cut b xs) (onto x (cut b xs))
 
--- the digit that a byte is, `0` to `9`, then "hexadecimal digits are lowercase", `a` to `f`; 16 for any other byte
-abbrev pub digitOf : ℕ → ℕ
-digitOf x = cond (leb 48 x && leb x 57) (x - 48) (cond (leb 97 x && leb x 102) (x - 87) 16)
-
--- every byte is a digit in this base
+-- every byte of a field is a digit in this base
 unfoldable pub allDigits : ℕ → List ℕ → Bool
 allDigits base [] = true
 allDigits base (x ∷ xs) = ltb (digitOf x) base && allDigits base xs
 
--- the number that digits go on to after those that gave v
+-- the number of a field's digits in this base, v being the number of the digits before them
 unfoldable pub value : ℕ → ℕ → List ℕ → ℕ
 value base v [] = v
 value base v (x ∷ xs) = value base (v * base + digitOf x) xs
@@ -48,30 +45,30 @@ abbrev pub form : ℕ → ℕ → ℕ → Form
 form base least most = record { base = base; least = least; most = most }
 
 -- "Whole numbers are 1 to 10 decimal digits"
-abbrev pub whole : Form
-whole = form 10 1 10
+abbrev pub wholeNumber : Form
+wholeNumber = form 10 1 10
 
 -- "the 16 hexadecimal digits of their bits"
 abbrev pub hexadecimal : Form
 hexadecimal = form 16 16 16
 
--- a field has this form
+-- a field has the form f
 abbrev pub isNumber : Form → List ℕ → Bool
 isNumber f xs = leb (f .least) (length xs) && leb (length xs) (f .most) && allDigits (f .base) xs
 
--- every field has this form
+-- every field has the form f
 unfoldable pub allNumbers : Form → List (List ℕ) → Bool
 allNumbers f [] = true
 allNumbers f (xs ∷ xss) = isNumber f xs && allNumbers f xss
 
--- a line of k fields of this form; "a line of any other form is malformed"
+-- a line of k fields of the form f; "a line of any other form is malformed"
 unfoldable pub isLine : Form → ℕ → List ℕ → Bool
 isLine f k line = eqb (length (cut space line)) k && allNumbers f (cut space line)
 
 -- the number of a field
-abbrev pub numberIn : Form → List ℕ → ℕ
-numberIn f xs = value (f .base) 0 xs
+abbrev pub fieldValue : Form → List ℕ → ℕ
+fieldValue f xs = value (f .base) 0 xs
 
 -- the numbers of a line, field by field
 abbrev pub values : Form → List ℕ → List ℕ
-values f line = map (numberIn f) (cut space line)
+values f line = map (fieldValue f) (cut space line)

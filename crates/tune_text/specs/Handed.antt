@@ -5,7 +5,7 @@ use mathlib.Core.List.{List, _++_}
 use mathlib.Core.Path.{_≡_}
 use Prim.Native.Nat.{ℕ, _+_, _-_, _≤_}
 use lib.ListN.{length, take, replicate}
-use Rattle.tune_text.specs.Fields.{Form, isNumber, isLine, numberIn, values}
+use Rattle.tune_text.specs.Fields.{Form, isNumber, isLine, fieldValue, values}
 use Rattle.tune_text.specs.Reading.{Turned, at}
 use Rattle.tune_text.specs.declared.Number.{Number}
 use Rattle.tune_text.specs.declared.Numbers.{Numbers}
@@ -15,12 +15,12 @@ use Rattle.tune_text.specs.declared.Text.{Text}
 use Rattle.tune_text.specs.declared.Turn.{Turn}
 
 -- what reading a field gives: its number, or 0 where its form is another
-unfoldable pub numberOf : Form → List ℕ → Number
-numberOf f xs = cond (isNumber f xs) (record { well = true; value = numberIn f xs }) (record { well = false; value = 0 })
+unfoldable pub numberRead : Form → List ℕ → Number
+numberRead f xs = cond (isNumber f xs) (record { well = true; value = fieldValue f xs }) (record { well = false; value = 0 })
 
 -- what reading a line of k fields gives: its numbers, with zeros up to four; zeros alone where it is malformed
-unfoldable pub numbersOf : Form → ℕ → List ℕ → Numbers
-numbersOf f k line =
+unfoldable pub numbersRead : Form → ℕ → List ℕ → Numbers
+numbersRead f k line =
     cond (isLine f k line)
     (record { well = true; values = values f line ++ replicate (4 - k) 0 })
     (record { well = false; values = replicate 4 0 })
@@ -37,10 +37,10 @@ written t = take (t .count) (t .bytes)
 abbrev pub Room : ℕ → Text → Type 0
 Room k t = (t ≡ textOf (written t)) × (t .count + k ≤ 192)
 
--- what a line of the input does
+-- the turn of a line as the functions hand it over
 abbrev pub turnOf : Turned → Turn
 turnOf t = record { progress = t .progress; text = textOf (t .line) }
 
--- a text that is printed last
-abbrev pub endedWith : Progress → Text → Turn
-endedWith p text = record { progress = at Done p; text = text }
+-- the turn that prints this text last
+abbrev pub lastTurnWith : Progress → Text → Turn
+lastTurnWith p text = record { progress = at Done p; text = text }

@@ -1,3 +1,4 @@
+-- The text of `tune`: what is printed for every input, and the steps in which it is printed.
 pub mod Ascii
 pub mod Fields
 pub mod Lines

@@ -24,13 +24,13 @@ unfoldable pub decimal : ℕ → List ℕ
 decimal n = trim (digits 10 20 n)
 
 -- a coordinate: "the 16 hexadecimal digits" of its bits, after a space
-abbrev pub coordinate : Float → List ℕ
-coordinate x = space ∷ digits 16 16 (toBits binary64 x)
+abbrev pub spacedBits : Float → List ℕ
+spacedBits x = space ∷ digits 16 16 (toBits binary64 x)
 
 -- the first k coordinates of a point
 unfoldable pub coordinates : ℕ → List Float → List ℕ
 coordinates zero x = []
-coordinates (suc k) x = coordinates k x ++ coordinate (getD x k nan)
+coordinates (suc k) x = coordinates k x ++ spacedBits (getD x k nan)
 
 -- "the point's n coordinates and the cost", to the end of the line; a point has eight
 abbrev pub pointAndCost : ℕ → List Float → ℕ → List ℕ
@@ -58,7 +58,7 @@ endAnd e = bytes "end " ++ word e
 abbrev pub bestLine : Ending → ℕ → List Float → ℕ → List ℕ
 bestLine e n x cost = endAnd e ++ pointAndCost n x cost
 
--- the same "without point and cost if no reading was accepted"
+-- the last line "without point and cost if no reading was accepted"
 abbrev pub endLine : Ending → List ℕ
 endLine e = endAnd e ++ (newline ∷ [])
 

@@ -5,9 +5,10 @@ use Prim.Native.Nat.{ℕ, suc}
 use lib.ListN.{getD, replicate, set}
 use lib.Dec.{leb, ltb, eqb}
 use lib.Ieee.{binary64, ofBits}
-use Rattle.rules.specs.Opening.{numberOf, zeroAxis, closed, opening}
+use Rattle.rules.specs.Numbers.{usual}
+use Rattle.rules.specs.Refusals.{numberOf}
+use Rattle.rules.specs.Opening.{zeroAxis, closed, opening}
 use Rattle.rules.specs.Calls.{asking, telling, showing, isEnded}
-use Rattle.rules.specs.Examples.{usual}
 use Rattle.rules.specs.declared.Axis.{Axis}
 use Rattle.rules.specs.declared.Asked.{Asked}
 use Rattle.rules.specs.declared.Told.{Told}
@@ -20,7 +21,7 @@ use Rattle.rules.specs.declared.RuleChoice.the-variants.{Named}
 use Rattle.rules.specs.declared.Search.{Search}
 use Rattle.rules.specs.declared.Verdict.{Verdict}
 use Rattle.rules.specs.declared.Verdict.the-variants.{Accepted, Refused}
-use Rattle.tune_text.specs.Fields.{whole, hexadecimal, isLine, values}
+use Rattle.tune_text.specs.Fields.{wholeNumber, hexadecimal, isLine, values}
 use Rattle.tune_text.specs.Lines.{readingLine, bestLine, endLine, refusedLine, badLine}
 use Rattle.tune_text.specs.declared.Ending.{Ending}
 use Rattle.tune_text.specs.declared.Ending.the-variants.{Waiting, Because}
@@ -38,9 +39,9 @@ pub record Turned : Type 0 where
 abbrev pub at : Stage → Progress → Progress
 at stage p = record { stage = stage; request = p .request; search = p .search }
 
--- a line is printed "and ends"
-abbrev pub ends : Progress → List ℕ → Turned
-ends p line = record { progress = at Done p; line = line }
+-- a turn that prints a line "and ends"
+abbrev pub lastTurn : Progress → List ℕ → Turned
+lastTurn p line = record { progress = at Done p; line = line }
 
 -- before the first line: nothing is read, and the search is closed
 unfoldable pub nothingRead : Progress
@@ -50,33 +51,33 @@ nothingRead = record { stage = Head; request = record { n = 0; budget = 0; sprea
 abbrev pub openingOf : Request → Opened
 openingOf q = opening (q .n) (q .axes) (Named (Spread (q .spread))) usual (q .budget)
 
--- costs follow an accepted opening; a refused one ends
-abbrev pub openedBy : Verdict → Request → Search → Turned
-openedBy Accepted q s = record { progress = record { stage = Costs; request = q; search = s }; line = [] }
-openedBy (Refused r) q s = record { progress = record { stage = Done; request = q; search = s }; line = refusedLine (numberOf r) }
+-- the turn of an opening with this verdict: costs follow an accepted one; a refused one is printed and ends
+abbrev pub turnOpened : Verdict → Request → Search → Turned
+turnOpened Accepted q s = record { progress = record { stage = Costs; request = q; search = s }; line = [] }
+turnOpened (Refused r) q s = record { progress = record { stage = Done; request = q; search = s }; line = refusedLine (numberOf r) }
 
--- the opening, called once
-abbrev pub opened : Request → Turned
-opened q = openedBy (openingOf q .verdict) q (openingOf q .search)
+-- the turn of the opening that the lines ask for, called once
+abbrev pub openingTurn : Request → Turned
+openingTurn q = turnOpened (openingOf q .verdict) q (openingOf q .search)
 
 -- how many axis lines are read: "If n isn't 1 to 8, no axis line is read"
 abbrev pub axisLines : ℕ → ℕ
 axisLines n = cond (leb 1 n && leb n 8) n 0
 
--- k axis lines are read: the next one follows, or the opening
-unfoldable pub furnished : ℕ → Request → Search → Turned
-furnished k q s =
+-- the turn after k axis lines are read: the next one follows, or the opening
+unfoldable pub axesRead : ℕ → Request → Search → Turned
+axesRead k q s =
     cond (ltb k (axisLines (q .n)))
     (record { progress = record { stage = Axes k; request = q; search = s }; line = [] })
-    (opened q)
+    (openingTurn q)
 
 -- the numbers of the first line: n, budget and spread E
 abbrev pub requestOf : List ℕ → Request
 requestOf vs = record { n = getD vs 0 0; budget = getD vs 1 0; spread = getD vs 2 0; axes = replicate 8 zeroAxis }
 
 -- the numbers of an axis line: "lo, hi, start, step" by "their bits"
-abbrev pub axisOf : List ℕ → Axis
-axisOf vs = record {
+abbrev pub axisFrom : List ℕ → Axis
+axisFrom vs = record {
   lo = ofBits binary64 (getD vs 0 0);
   hi = ofBits binary64 (getD vs 1 0);
   start = ofBits binary64 (getD vs 2 0);
@@ -87,27 +88,27 @@ axisOf vs = record {
 abbrev pub withAxis : ℕ → Axis → Request → Request
 withAxis k a q = record { n = q .n; budget = q .budget; spread = q .spread; axes = set (q .axes) k a }
 
--- a cost is told for the trial that is asked: "per accepted reading, its number, the point's n coordinates and the cost"
-abbrev pub toldBy : Verdict → Progress → Asked → Search → ℕ → Turned
-toldBy Accepted p a s cost = record {
+-- the turn of a tell with this verdict: "per accepted reading, its number, the point's n coordinates and the cost"
+abbrev pub turnTold : Verdict → Progress → Asked → Search → ℕ → Turned
+turnTold Accepted p a s cost = record {
   progress = record { stage = Costs; request = p .request; search = s };
   line = readingLine (a .number) (p .search .setup .n) (a .point) cost;
 }
-toldBy (Refused r) p a s cost = ends p (refusedLine (numberOf r))
+turnTold (Refused r) p a s cost = lastTurn p (refusedLine (numberOf r))
 
--- the answer of tell
+-- the answer of tell to a cost for the trial that is asked
 abbrev pub answerOf : Progress → ℕ → Told
 answerOf p cost = telling (p .search) (asking (p .search) .number) cost
 
--- a cost line's cost is told
+-- the turn of a cost line, whose cost is told
 unfoldable pub costTold : Progress → ℕ → Turned
-costTold p cost = toldBy (answerOf p cost .verdict) p (asking (p .search)) (answerOf p cost .search) cost
+costTold p cost = turnTold (answerOf p cost .verdict) p (asking (p .search)) (answerOf p cost .search) cost
 
--- line i, by the stage
+-- the turn of line i, by the stage
 unfoldable pub lineRead : Stage → Progress → ℕ → List ℕ → Turned
-lineRead Head p i line = cond (isLine whole 3 line) (furnished 0 (requestOf (values whole line)) (p .search)) (ends p (badLine i))
-lineRead (Axes k) p i line = cond (isLine hexadecimal 4 line) (furnished (suc k) (withAxis k (axisOf (values hexadecimal line)) (p .request)) (p .search)) (ends p (badLine i))
-lineRead Costs p i line = cond (isLine whole 1 line) (costTold p (getD (values whole line) 0 0)) (ends p (badLine i))
+lineRead Head p i line = cond (isLine wholeNumber 3 line) (axesRead 0 (requestOf (values wholeNumber line)) (p .search)) (lastTurn p (badLine i))
+lineRead (Axes k) p i line = cond (isLine hexadecimal 4 line) (axesRead (suc k) (withAxis k (axisFrom (values hexadecimal line)) (p .request)) (p .search)) (lastTurn p (badLine i))
+lineRead Costs p i line = cond (isLine wholeNumber 1 line) (costTold p (getD (values wholeNumber line) 0 0)) (lastTurn p (badLine i))
 lineRead Done p i line = record { progress = p; line = [] }
 
 -- the cause; `waiting` where the search has not ended

@@ -25,15 +25,15 @@ firstState = record { position = 0; line = 1; progress = nothingRead }
 abbrev pub lineAfter : ℕ → ℕ
 lineAfter i = cond (leb i longest) (i + 1) i
 
--- this text is printed, and all is done
-abbrev pub finishedWith : State → Text → Stepped
-finishedWith s text = record { state = record { position = s .position; line = s .line; progress = at Done (s .progress) }; text = text }
+-- the step that prints this text, after which all is done
+abbrev pub lastStepWith : State → Text → Stepped
+lastStepWith s text = record { state = record { position = s .position; line = s .line; progress = at Done (s .progress) }; text = text }
 
--- a line is printed, and all is done
-abbrev pub finished : State → List ℕ → Stepped
-finished s line = finishedWith s (textOf line)
+-- the step that prints this line, after which all is done
+abbrev pub lastStep : State → List ℕ → Stepped
+lastStep s line = lastStepWith s (textOf line)
 
--- a whole line of k bytes is read
+-- the step that has read a whole line of k bytes and done its turn
 abbrev pub passed : State → ℕ → Turned → Stepped
 passed s k t = record { state = record { position = s .position + k + 1; line = lineAfter (s .line); progress = t .progress }; text = textOf (t .line) }
 
@@ -42,7 +42,7 @@ unfoldable pub lineStep : State → List ℕ → Stepped
 lineStep s left =
     cond (ltb (indexOf newline left) (length left))
     (passed s (indexOf newline left) (lineRead (s .progress .stage) (s .progress) (s .line) (take (indexOf newline left) left)))
-    (finished s (stopped (s .progress) (s .line) left))
+    (lastStep s (stopped (s .progress) (s .line) left))
 
 -- a step: nothing where all is done, `bad 0` for a long input, the last line of a search that has ended, else a line
 unfoldable pub stepping : List ℕ → State → Stepped
@@ -50,21 +50,21 @@ stepping bytes s =
     cond (isDone (s .progress .stage)) (record { state = s; text = textOf [] })
     (cond (leb (length bytes) longest)
     (cond (isOver (s .progress .stage) (s .progress .search))
-    (finished s (lastLine (s .progress .stage) (s .progress .search)))
+    (lastStep s (lastLine (s .progress .stage) (s .progress .search)))
     (lineStep s (drop (s .position) bytes)))
-    (finished s (badLine 0)))
+    (lastStep s (badLine 0)))
 
 -- the state after k steps
-unfoldable pub after : ℕ → List ℕ → State → State
-after zero bytes s = s
-after (suc k) bytes s = after k bytes (stepping bytes s .state)
+unfoldable pub stateAfter : ℕ → List ℕ → State → State
+stateAfter zero bytes s = s
+stateAfter (suc k) bytes s = stateAfter k bytes (stepping bytes s .state)
 
 -- the lines of k steps, put together
 unfoldable pub printed : ℕ → List ℕ → State → List ℕ
 printed zero bytes s = []
 printed (suc k) bytes s = written (stepping bytes s .text) ++ printed k bytes (stepping bytes s .state)
 
--- no more steps than this are left, and this falls with each
+-- a bound on the steps that are left, which falls with each step
 abbrev pub stepsLeft : List ℕ → State → ℕ
 stepsLeft bytes s = cond (isDone (s .progress .stage)) 0 (suc (length bytes - s .position))
 
@@ -73,6 +73,6 @@ stepsLeft bytes s = cond (isDone (s .progress .stage)) 0 (suc (length bytes - s 
 pub record Fills (bytes : List ℕ) (s : State) (buffer : List ℕ) (r : Filled) : Type 0 where
   pub steps : ℕ
   pub lines : take (r .count) buffer ≡ printed steps bytes s
-  pub state : r .state ≡ after steps bytes s
+  pub state : r .state ≡ stateAfter steps bytes s
   pub within : r .count ≤ length buffer
   pub onward : isDone (s .progress .stage) ≡ false → 192 ≤ length buffer → stepsLeft bytes (r .state) < stepsLeft bytes s

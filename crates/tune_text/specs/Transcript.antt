@@ -23,12 +23,12 @@ abbrev pub unlessOver : Progress → List ℕ → List ℕ
 unlessOver p lines = cond (isDone (p .stage)) [] (cond (isOver (p .stage) (p .search)) (lastLine (p .stage) (p .search)) lines)
 
 -- what is printed from line i on, the input being cut into its lines; a cut has a piece at least, so the first case never comes
-unfoldable pub told : Progress → ℕ → List (List ℕ) → List ℕ
-told p i [] = []
-told p i (line ∷ []) = unlessOver p (stopped p i line)
-told p i (line ∷ (next ∷ rest)) =
-    unlessOver p (lineRead (p .stage) p i line .line ++ told (lineRead (p .stage) p i line .progress) (suc i) (next ∷ rest))
+unfoldable pub linesFrom : Progress → ℕ → List (List ℕ) → List ℕ
+linesFrom p i [] = []
+linesFrom p i (line ∷ []) = unlessOver p (stopped p i line)
+linesFrom p i (line ∷ (next ∷ rest)) =
+    unlessOver p (lineRead (p .stage) p i line .line ++ linesFrom (lineRead (p .stage) p i line .progress) (suc i) (next ∷ rest))
 
 -- the bytes of the output for the bytes of the input; "Longer input prints `bad 0` alone"
 unfoldable pub transcript : List ℕ → List ℕ
-transcript bytes = cond (leb (length bytes) longest) (told nothingRead 1 (cut newline bytes)) (badLine 0)
+transcript bytes = cond (leb (length bytes) longest) (linesFrom nothingRead 1 (cut newline bytes)) (badLine 0)

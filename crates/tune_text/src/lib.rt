@@ -11,9 +11,7 @@ mod opening;
 mod reading;
 mod steps;
 
-pub use fields::digit;
 ghost use mathlib.Core.Path.{_≡_};
-ghost use lib.Ieee.{binary64, ofBits, toBits};
 ghost use Rattle.tune_text.specs.Reading.{isDone};
 ghost use Rattle.tune_text.specs.Steps.{firstState, stepping, Fills};
 
@@ -123,11 +121,11 @@ pub fn step(input: &[u8], state: State) -> Stepped
     }
     if input.len() > 65536 {
         let text = lines::bad(0);
-        return steps::finish(state, text);
+        return steps::last_step(state, text);
     }
     if last::is_over(stage, search) {
         let text = last::last_line(stage, search);
-        return steps::finish(state, text);
+        return steps::last_step(state, text);
     }
     steps::line_step(input, state)
 }
@@ -145,27 +143,4 @@ pub fn fill(input: &[u8], state: State, buffer: &mut [u8]) -> Filled
         s = stepped.state;
     }
     Filled { state: s, count }
-}
-
-// The float with these bits; any NaN's bits give the one NaN.
-pub fn float_of(bits: u64) -> f64
-    ensures { λ r. ⌜ r ≡ ofBits binary64 bits ⌝ }
-{
-    let unsigned = bits & 0x7fff_ffff_ffff_ffff;
-    if unsigned > 0x7ff0_0000_0000_0000 {
-        0.0 / 0.0
-    } else {
-        f64::from_bits(bits)
-    }
-}
-
-// The bits of a float; 7ff8000000000000 for a NaN.
-pub fn bits_of(x: f64) -> u64
-    ensures { λ r. ⌜ r ≡ toBits binary64 x ⌝ }
-{
-    if x != x {
-        0x7ff8_0000_0000_0000
-    } else {
-        f64::to_bits(x)
-    }
 }

@@ -1,17 +1,17 @@
 // The lines of the output.
-use super::bits_of;
 use crate::Ending;
 use crate::Text;
+use numerals::bits_of;
 use rules::Cause;
 ghost use mathlib.Core.Path.{_≡_};
 ghost use mathlib.Core.List.{[], _∷_, _++_};
 ghost use Prim.Native.Nat.{_≤_, min};
 ghost use lib.ListN.{length};
 ghost use Rattle.tune_text.specs.Fields.{newline};
-ghost use Rattle.tune_text.specs.Lines.{decimal, coordinate, coordinates, numberedLine, pointAndCost, readingLine, endAnd, bestLine, endLine, refusedLine, badLine};
+ghost use Rattle.tune_text.specs.Lines.{decimal, spacedBits, coordinates, numberedLine, pointAndCost, readingLine, endAnd, bestLine, endLine, refusedLine, badLine};
 ghost use Rattle.tune_text.specs.Handed.{textOf, written, Room};
 
-// No line.
+// A text with no line.
 pub(super) fn no_line() -> Text
     ensures { λ r. ⌜ r ≡ textOf [] ⌝ }
 {
@@ -21,7 +21,7 @@ pub(super) fn no_line() -> Text
     }
 }
 
-// Adds these bytes.
+// Adds the bytes of a word to a line.
 fn put(text: Text, word: &[u8]) -> Text
     requires { ⌜ Room (length (now word)) text ⌝ }
     ensures { λ r. ⌜ r ≡ textOf (written text ++ now (word .entry)) ⌝ }
@@ -35,7 +35,7 @@ fn put(text: Text, word: &[u8]) -> Text
     }
 }
 
-// Adds a whole number in decimal.
+// Adds a whole number in decimal to a line.
 fn put_decimal(text: Text, n: u64) -> Text
     requires { ⌜ Room 20 text ⌝ }
     ensures { λ r. ⌜ r ≡ textOf (written text ++ decimal n) ⌝ }
@@ -48,7 +48,7 @@ fn put_decimal(text: Text, n: u64) -> Text
 // Adds a coordinate by its bits, after a space.
 fn put_coordinate(text: Text, x: f64) -> Text
     requires { ⌜ Room 17 text ⌝ }
-    ensures { λ r. ⌜ r ≡ textOf (written text ++ coordinate x) ⌝ }
+    ensures { λ r. ⌜ r ≡ textOf (written text ++ spacedBits x) ⌝ }
 {
     let mut digits = [0u8; 16];
     let k = io::hex(bits_of(x), 16, &mut digits);
@@ -119,7 +119,7 @@ pub(super) fn best(ending: Ending, n: usize, point: [f64; 8], cost: u64) -> Text
     put_point_and_cost(t, n, point, cost)
 }
 
-// The last line without them.
+// The last line without a best point and its cost.
 pub(super) fn end(ending: Ending) -> Text
     ensures { λ r. ⌜ r ≡ textOf (endLine ending) ⌝ }
 {

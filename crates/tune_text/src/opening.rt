@@ -5,29 +5,16 @@ use crate::Request;
 use crate::Stage;
 use crate::Turn;
 use rules::Axis;
-use rules::Coefficients;
 use rules::Rule;
 use rules::RuleChoice;
 use rules::Search;
+use rules::USUAL;
 use rules::Verdict;
 ghost use mathlib.Core.Path.{_≡_};
 ghost use lib.ListN.{replicate};
 ghost use Rattle.rules.specs.Opening.{zeroAxis};
-ghost use Rattle.rules.specs.Examples.{usual as Examples·usual};
-ghost use Rattle.tune_text.specs.Reading.{axisLines, nothingRead, opened, furnished};
+ghost use Rattle.tune_text.specs.Reading.{axisLines, nothingRead, openingTurn, axesRead};
 ghost use Rattle.tune_text.specs.Handed.{turnOf};
-
-// The usual coefficients: 1, 2, 1/2, 1/2.
-fn usual() -> Coefficients
-    ensures { λ r. ⌜ r ≡ Examples·usual ⌝ }
-{
-    Coefficients {
-        alpha: 1.0,
-        chi: 2.0,
-        beta: 0.5,
-        sigma: 0.5,
-    }
-}
 
 // Eight records of zeros.
 pub(super) fn no_axes() -> [Axis; 8]
@@ -48,7 +35,7 @@ pub(super) fn nothing_read() -> Progress
 {
     let axes = no_axes();
     let rule = RuleChoice::Unnamed;
-    let closed = engine::open_search(0, axes, rule, usual(), 0);
+    let closed = engine::open_search(0, axes, rule, USUAL, 0);
     let search = closed.search;
     let request = Request {
         n: 0,
@@ -65,11 +52,11 @@ pub(super) fn nothing_read() -> Progress
 
 // Opens the search that the lines ask for. A refusal is printed.
 fn open(request: Request) -> Turn
-    ensures { λ r. ⌜ r ≡ turnOf (opened request) ⌝ }
+    ensures { λ r. ⌜ r ≡ turnOf (openingTurn request) ⌝ }
 {
     let axes = request.axes;
     let rule = RuleChoice::Named(Rule::Spread(request.spread));
-    let answer = engine::open_search(request.n, axes, rule, usual(), request.budget);
+    let answer = engine::open_search(request.n, axes, rule, USUAL, request.budget);
     let verdict = answer.verdict;
     let search = answer.search;
     match verdict {
@@ -102,8 +89,8 @@ fn axis_lines(n: usize) -> usize
 }
 
 // After k axis lines: the next one, or the opening.
-pub(super) fn furnish(k: usize, request: Request, search: Search) -> Turn
-    ensures { λ r. ⌜ r ≡ turnOf (furnished k request search) ⌝ }
+pub(super) fn axes_read(k: usize, request: Request, search: Search) -> Turn
+    ensures { λ r. ⌜ r ≡ turnOf (axesRead k request search) ⌝ }
 {
     if k < axis_lines(request.n) {
         let progress = Progress {

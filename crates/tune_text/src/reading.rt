@@ -1,6 +1,5 @@
 // What a line of the input does.
 use super::fields;
-use super::float_of;
 use super::lines;
 use super::opening;
 use crate::Progress;
@@ -8,14 +7,15 @@ use crate::Request;
 use crate::Stage;
 use crate::Text;
 use crate::Turn;
+use numerals::float_of;
 use rules::Axis;
 use rules::Verdict;
 ghost use mathlib.Core.Path.{_≡_};
 ghost use Prim.Native.Nat.{_<_};
 ghost use Rattle.tune_text.specs.Lines.{badLine};
-ghost use Rattle.tune_text.specs.Reading.{axisOf, at as Reading·at, costTold, ends, lineRead, withAxis};
+ghost use Rattle.tune_text.specs.Reading.{axisFrom, at as Reading·at, costTold, lastTurn, lineRead, withAxis};
 ghost use Rattle.tune_text.specs.declared.Stage.the-variants.{Head, Axes, Costs};
-ghost use Rattle.tune_text.specs.Handed.{endedWith, turnOf};
+ghost use Rattle.tune_text.specs.Handed.{lastTurnWith, turnOf};
 
 // What is read so far, at another stage.
 pub(super) fn at(stage: Stage, progress: Progress) -> Progress
@@ -31,8 +31,8 @@ pub(super) fn at(stage: Stage, progress: Progress) -> Progress
 }
 
 // A last line is printed.
-fn end_with(progress: Progress, text: Text) -> Turn
-    ensures { λ r. ⌜ r ≡ endedWith progress text ⌝ }
+fn last_turn(progress: Progress, text: Text) -> Turn
+    ensures { λ r. ⌜ r ≡ lastTurnWith progress text ⌝ }
 {
     let done = at(Stage::Done, progress);
     Turn {
@@ -43,10 +43,10 @@ fn end_with(progress: Progress, text: Text) -> Turn
 
 // Line i is malformed.
 fn bad_line(progress: Progress, i: u64) -> Turn
-    ensures { λ r. ⌜ r ≡ turnOf (ends progress (badLine i)) ⌝ }
+    ensures { λ r. ⌜ r ≡ turnOf (lastTurn progress (badLine i)) ⌝ }
 {
     let text = lines::bad(i);
-    end_with(progress, text)
+    last_turn(progress, text)
 }
 
 // The first line.
@@ -66,12 +66,12 @@ fn head_line(progress: Progress, i: u64, line: &[u8]) -> Turn
         spread: values[2],
         axes,
     };
-    opening::furnish(0, request, search)
+    opening::axes_read(0, request, search)
 }
 
 // An axis record by its bits.
 fn axis_from(values: [u64; 4]) -> Axis
-    ensures { λ r. ⌜ r ≡ axisOf values ⌝ }
+    ensures { λ r. ⌜ r ≡ axisFrom values ⌝ }
 {
     Axis {
         lo: float_of(values[0]),
@@ -108,10 +108,10 @@ fn axis_line(k: usize, progress: Progress, i: u64, line: &[u8]) -> Turn
     let search = progress.search;
     let request = progress.request;
     if k < 8 {
-        let furnished = with_axis(k, axis_from(values), request);
-        opening::furnish(k + 1, furnished, search)
+        let more = with_axis(k, axis_from(values), request);
+        opening::axes_read(k + 1, more, search)
     } else {
-        opening::furnish(k, request, search)
+        opening::axes_read(k, request, search)
     }
 }
 
@@ -142,7 +142,7 @@ fn tell(progress: Progress, cost: u64) -> Turn
         }
         Verdict::Refused(r) => {
             let text = lines::refused(engine::refusal_number(r));
-            end_with(progress, text)
+            last_turn(progress, text)
         }
     }
 }

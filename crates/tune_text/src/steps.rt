@@ -14,7 +14,7 @@ ghost use Prim.Native.Nat.{_+_, _≤_};
 ghost use lib.Dec.{leb};
 ghost use lib.ListN.{length, take, drop};
 ghost use Rattle.tune_text.specs.Reading.{isDone};
-ghost use Rattle.tune_text.specs.Steps.{lineAfter, finishedWith, lineStep};
+ghost use Rattle.tune_text.specs.Steps.{lineAfter, lastStepWith, lineStep};
 ghost use Rattle.tune_text.specs.Handed.{written};
 
 // The number of the line after line i.
@@ -25,8 +25,8 @@ fn line_after(i: u64) -> u64
 }
 
 // The step that prints a last line.
-pub(super) fn finish(state: State, text: Text) -> Stepped
-    ensures { λ r. ⌜ r ≡ finishedWith state text ⌝ }
+pub(super) fn last_step(state: State, text: Text) -> Stepped
+    ensures { λ r. ⌜ r ≡ lastStepWith state text ⌝ }
 {
     let progress = state.progress;
     let done = reading::at(Stage::Done, progress);
@@ -48,12 +48,12 @@ pub(super) fn line_step(input: &[u8], state: State) -> Stepped
     if position >= input.len() {
         let search = progress.search;
         let text = last::last_line(stage, search);
-        return finish(state, text);
+        return last_step(state, text);
     }
     let end = bytes::scan::find(input, position, input.len(), 10);
     if end >= input.len() {
         let text = lines::bad(state.line);
-        return finish(state, text);
+        return last_step(state, text);
     }
     let turn = reading::read_line(stage, progress, state.line, &input[position..end]);
     let after = turn.progress;

@@ -2,8 +2,8 @@
 use mathlib.Core.Path.{_≡_, refl}
 use mathlib.Core.Bool.{Bool, true, false}
 use Prim.Native.Nat.{ℕ, _≤_}
+use Rattle.rules.specs.Numbers.{maxCost}
 use Rattle.rules.specs.Accept.{pick, better, winsExpanded, reflectedVertex, row1, row2, row3, wins, reflectedOn, expandedOn, contractedOn, advanced}
-use Rattle.rules.specs.Calls.{maxCost}
 use Rattle.rules.specs.declared.Vertex.{Vertex}
 use Rattle.rules.specs.declared.Search.{Search}
 use Rattle.rules.specs.declared.Phase.{Phase}

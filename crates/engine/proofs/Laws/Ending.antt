@@ -6,10 +6,10 @@ use native.Mathlib.Omega.{arith}
 use lib.ListN.{length}
 use lib.Ieee.{Float}
 use Rattle.rules.specs.Binary64.{0ᶠ}
+use Rattle.rules.specs.Numbers.{maxCost}
 use Rattle.rules.specs.Simplex.{pack, unpack, insert}
 use Rattle.rules.specs.Stop.{movement}
 use Rattle.rules.specs.Accept.{finished}
-use Rattle.rules.specs.Calls.{maxCost}
 use Rattle.rules.specs.declared.Vertex.{Vertex}
 use Rattle.rules.specs.declared.Simplex.{Simplex}
 use Rattle.rules.specs.declared.Search.{Search}

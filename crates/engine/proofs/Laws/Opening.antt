@@ -6,7 +6,8 @@ use Prim.Native.Nat.{ℕ, zero, suc, _+_, _-_, _≤_, _<_}
 use native.Mathlib.Omega.{arith}
 use lib.ListN.{getD}
 use Rattle.rules.specs.Trial.{noAxis}
-use Rattle.rules.specs.Opening.{check, axisChecks, axesChecks}
+use Rattle.rules.specs.Refusals.{check}
+use Rattle.rules.specs.Opening.{axisChecks, axesChecks}
 use Rattle.rules.specs.declared.Axis.{Axis}
 use Rattle.rules.specs.declared.Verdict.{Verdict}
 use Rattle.rules.specs.declared.Verdict.the-variants.{Accepted, Refused}

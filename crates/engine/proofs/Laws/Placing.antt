@@ -9,8 +9,8 @@ use lib.ListN.{length, take, drop, set, replicate, length-append, length-drop, l
 use lib.Seq.{take-all, take-at, set-at, append-snoc, drop-cons, drop-append-add, length-take-le, length-paste}
 use Rattle.rules.specs.declared.Simplex.{Simplex}
 use Rattle.rules.specs.declared.Vertex.{Vertex}
+use Rattle.rules.specs.Numbers.{maxCost}
 use Rattle.rules.specs.Simplex.{upTo, blank, costOf, flat, store, pack, place, unpack, insert}
-use Rattle.rules.specs.Calls.{maxCost}
 use Rattle.rules.proofs.Laws.Lists.{length-upTo, getD-upTo, mem-getD}
 use Rattle.rules.proofs.Laws.Places.{Whole, whole-padded, drop-flat, flat-append, unpack-pack, cost-pack}
 use Rattle.rules.proofs.Laws.Order.{insert-after, insert-before, length-insert, mem-insert, le-or-lt}

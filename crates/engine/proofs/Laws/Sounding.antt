@@ -10,9 +10,10 @@ use native.Mathlib.Omega.{arith}
 use lib.ListN.{length, getD}
 use lib.Dec.{leb, eqb}
 use borrow.Author.Tests.{leb-true, ltb-true, le-leb}
+use Rattle.rules.specs.Numbers.{maxCost, maxBudget}
 use Rattle.rules.specs.Simplex.{upTo, blank, costOf, place, unpack, Ordered}
-use Rattle.rules.specs.Opening.{check}
-use Rattle.rules.specs.Calls.{maxCost, isEnded, soundPhase, gatheredIn, inOrder, allCosts, sound, undamaged, askVerdict, tellVerdict}
+use Rattle.rules.specs.Refusals.{check}
+use Rattle.rules.specs.Calls.{isEnded, soundPhase, gatheredIn, inOrder, allCosts, sound, undamaged, askVerdict, tellVerdict}
 use Rattle.rules.specs.declared.Simplex.{Simplex}
 use Rattle.rules.specs.declared.Vertex.{Vertex}
 use Rattle.rules.specs.declared.Search.{Search}
@@ -130,14 +131,14 @@ phase-fits n builds (Probing p) h = ltb-true p (2 * n) h
 phase-fits n builds (Ended cause) h = tt
 
 -- a phase that fits has gathered no more vertices than there are axes
-pub gathered-few : (n : ℕ) (p : Phase) → Fits n p → gatheredIn p ≤ n
-gathered-few n (Building i) h = h
-gathered-few n Reflecting h = omega arith
-gathered-few n (Expanding f) h = omega arith
-gathered-few n (Contracting side f) h = omega arith
-gathered-few n (Shrinking j) h = h .1
-gathered-few n (Probing p) h = omega arith
-gathered-few n (Ended cause) h = omega arith
+pub gathered-most : (n : ℕ) (p : Phase) → Fits n p → gatheredIn p ≤ n
+gathered-most n (Building i) h = h
+gathered-most n Reflecting h = omega arith
+gathered-most n (Expanding f) h = omega arith
+gathered-most n (Contracting side f) h = omega arith
+gathered-most n (Shrinking j) h = h .1
+gathered-most n (Probing p) h = omega arith
+gathered-most n (Ended cause) h = omega arith
 
 module _ (s : Search) (h : sound s ≡ true) where
   -- a sound search has what every step needs
@@ -149,7 +150,7 @@ module _ (s : Search) (h : sound s ≡ true) where
         low = omega (arith, leb-true);
         high = omega (arith, leb-true);
         rule = search;
-        few = omega (arith, leb-true);
+        counts = omega (arith, leb-true);
         standing = capped-all (s .standing .costs) search;
         gathered = capped-all (s .gathered .costs) search;
       }
@@ -160,9 +161,9 @@ module _ (s : Search) (h : sound s ≡ true) where
   fits = let k = simp and-eq-true-iff at h in phase-fits (s .setup .n) (s .counts .builds) (s .phase) search
 
   -- it has readings left
-  pub room : s .readings < 1000000
+  pub below : s .readings < maxBudget
   unfolding sound
-  room = let k = simp and-eq-true-iff at h in omega (arith, leb-true, ltb-true)
+  below = let k = simp and-eq-true-iff at h in omega (arith, leb-true, ltb-true)
 
 -- of two tests one of which holds, and not the first, the second does
 or-other : (a b : Bool) → (a || b) ≡ true → not a ≡ true → b ≡ true

@@ -78,4 +78,4 @@ open-small (suc b) (suc i) = omega arith
 
 -- a noted reading leaves it
 pub ready-noted : (s : Search) (v : Vertex) → Ready s → Ready (noted v s)
-ready-noted s v h = record { low = h .low; high = h .high; rule = h .rule; few = h .few; standing = h .standing; gathered = h .gathered }
+ready-noted s v h = record { low = h .low; high = h .high; rule = h .rule; counts = h .counts; standing = h .standing; gathered = h .gathered }

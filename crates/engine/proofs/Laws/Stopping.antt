@@ -10,10 +10,10 @@ use lib.ListN.{length, getD, take, drop}
 use lib.Seq.{take-suc, drop-append-le}
 use lib.Ieee.{Float}
 use Rattle.rules.specs.Binary64.{0ᶠ, _⊗_, _≤ᶠ_}
+use Rattle.rules.specs.Numbers.{maxCost}
 use Rattle.rules.specs.Simplex.{upTo, pointOf, place, unpack}
 use Rattle.rules.specs.Stop.{total, square, apart, movement, movedMet, norm, scale, allWithin, sizeMet}
 use Rattle.rules.specs.Accept.{met}
-use Rattle.rules.specs.Calls.{maxCost}
 use Rattle.rules.specs.declared.Simplex.{Simplex}
 use Rattle.rules.specs.declared.Vertex.{Vertex}
 use Rattle.rules.specs.declared.Rule.{Rule}

@@ -5,7 +5,7 @@ use native.Mathlib.Omega.{arith}
 use borrow.Author.Needs.{needs}
 use Rattle.rules.specs.Calls.{sound, asking}
 use Rattle.rules.specs.Trial.{trial}
-use Rattle.engine.proofs.Laws.Sounding.{ask-sound, ready, fits, room}
+use Rattle.engine.proofs.Laws.Sounding.{ask-sound, ready, fits, below}
 use Rattle.engine.proofs.ask.Statement.{statement}
 use Rattle.engine.proofs.ask.Tie as tie
 
@@ -26,7 +26,7 @@ add-t17 : tie.Need-add-t17
 add-t17 c =
     let at = c .before .before .before .before .before .before .before .before .before .before .before in
     let s = at .before .before .before .args .search in
-    omega (arith, room s (ask-sound s (sym (at .before .before .ask-verdict .ensures) ∙ at .enum-told .given .1)))
+    omega (arith, below s (ask-sound s (sym (at .before .before .ask-verdict .ensures) ∙ at .enum-told .given .1)))
 
 enum-known-verdict : tie.Need-enum-known-verdict
 enum-known-verdict c = search needs

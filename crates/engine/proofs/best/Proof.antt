@@ -1,3 +1,4 @@
+-- `engine::best` meets its contract, by those of its verdict, of the point shown and of the refused answer. Assumes nothing.
 use borrow.Author.Needs.{needs}
 use Rattle.rules.specs.Calls.{showing}
 use Rattle.engine.proofs.best.Statement.{statement}

@@ -1,3 +1,4 @@
+-- `engine::open_search` meets its contract, by those of its verdict and of the fresh and the closed search. Assumes nothing.
 use borrow.Author.Needs.{needs}
 use Rattle.rules.specs.Opening.{opening}
 use Rattle.engine.proofs.open_search.Statement.{statement}

@@ -1,9 +1,10 @@
+-- `engine::tell` meets its contract: an accepted call has a sound search, whose phase fits, and a cost in range. Assumes nothing.
 use mathlib.Core.Path.{_≡_, sym, _∙_}
 use mathlib.Core.Bool.{true}
 use borrow.Author.Needs.{needs}
 use Rattle.rules.specs.declared.Verdict.the-variants.{Accepted}
 use Rattle.rules.specs.Calls.{tellVerdict, sound, telling}
-use Rattle.engine.proofs.Laws.Sounding.{tell-sound, tell-low, ready, fits, room}
+use Rattle.engine.proofs.Laws.Sounding.{tell-sound, tell-low, ready, fits, below}
 use Rattle.engine.proofs.tell.Statement.{statement}
 use Rattle.engine.proofs.tell.Tie as tie
 
@@ -19,7 +20,7 @@ accept-requires c κs =
     let s = a .search in
     let v : tellVerdict s (a .number) (a .cost) ≡ Accepted = sym (c .before .before .tell-verdict .ensures) ∙ c .enum-told .given .1 in
     let h : sound s ≡ true = tell-sound s (a .number) (a .cost) v in
-    (ready s h, room s h, fits s h, tell-low s (a .number) (a .cost) v)
+    (ready s h, below s h, fits s h, tell-low s (a .number) (a .cost) v)
 
 enum-known-verdict : tie.Need-enum-known-verdict
 enum-known-verdict c = search needs

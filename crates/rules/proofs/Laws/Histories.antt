@@ -10,10 +10,11 @@ use lib.ListN.{length, getD, List·getD-append}
 use lib.Seq.{take-append-le}
 use Rattle.rules.specs.declared.Vertex.{Vertex}
 use Rattle.rules.specs.declared.Search.{Search}
+use Rattle.rules.specs.Numbers.{maxCost}
 use Rattle.rules.specs.Simplex.{blank, costOf}
 use Rattle.rules.specs.Trial.{trial}
 use Rattle.rules.specs.Accept.{Piece, accept, run}
-use Rattle.rules.specs.Calls.{isEnded, maxCost}
+use Rattle.rules.specs.Calls.{isEnded}
 use Rattle.rules.specs.History.{reading}
 use Rattle.rules.specs.Tally.{finishes, pieces, countOf, made, probesIn, openIn}
 

@@ -11,8 +11,10 @@ use lib.Seq.{getD-take}
 use lib.Ieee.{Float, lt}
 use borrow.Author.Tests.{leb-true}
 use Rattle.rules.specs.Binary64.{_≤ᶠ_, _<ᶠ_}
+use Rattle.rules.specs.Numbers.{maxBudget}
 use Rattle.rules.specs.Trial.{noAxis, axis, clamped, reflected, expanded, contracted, shrunk, built, probed, asked, trial}
-use Rattle.rules.specs.Opening.{check, inThreshold, axisChecks, axesChecks, ruleOf, zeroAxis, keep, fresh, openedBy, openVerdict, opening}
+use Rattle.rules.specs.Refusals.{check}
+use Rattle.rules.specs.Opening.{inThreshold, axisChecks, axesChecks, ruleOf, zeroAxis, keep, fresh, openedBy, openVerdict, opening}
 use Rattle.rules.specs.Calls.{soundRule, isEnded}
 use Rattle.rules.specs.Claims.{Within}
 use Rattle.rules.specs.declared.Axis.{Axis}
@@ -83,7 +85,7 @@ pub record Sane (t : Setup) : Type 0 where
   pub atLeast : 1 ≤ t .n
   pub atMost8 : t .n ≤ 8
   pub enough : t .n + 1 ≤ t .budget
-  pub notMuch : t .budget ≤ 1000000
+  pub notMuch : t .budget ≤ maxBudget
   pub rule : soundRule (t .rule) ≡ true
   pub limits : (a : ℕ) → a < t .n → (axis t a .lo ≤ᶠ axis t a .hi) ≡ true
 

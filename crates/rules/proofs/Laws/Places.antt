@@ -10,8 +10,9 @@ use lib.Seq.{drop-nil, take-all, take-suc, take-add, take-at, take-length, take-
 use borrow.Author.Tests.{le-leb}
 use Rattle.rules.specs.declared.Simplex.{Simplex}
 use Rattle.rules.specs.declared.Vertex.{Vertex}
+use Rattle.rules.specs.Numbers.{maxCost}
 use Rattle.rules.specs.Simplex.{upTo, blank, costOf, flat, store, pack, place, unpack}
-use Rattle.rules.specs.Calls.{maxCost, allCosts}
+use Rattle.rules.specs.Calls.{allCosts}
 use Rattle.rules.proofs.Laws.Lists.{length-upTo, mem-getD}
 
 -- each point has eight numbers

@@ -24,25 +24,25 @@ use Rattle.rules.proofs.Laws.Openings.{Sane}
 use Rattle.rules.proofs.Laws.Histories.{readingsOf, Joined, length-readingsOf, costs-readingsOf, getD-readingsOf, mem-readingsOf}
 use Rattle.rules.proofs.Steps.Invariant.{Best, Inv}
 use Rattle.rules.proofs.Steps.Noting.{best-mem}
-use Rattle.rules.proofs.Steps.Accepting.{Room}
-use Rattle.rules.proofs.Runs.Running.{Ran, ran, fresh-inv, fresh-room}
+use Rattle.rules.proofs.Steps.Accepting.{BelowBudget}
+use Rattle.rules.proofs.Runs.Running.{Ran, ran, fresh-inv, fresh-below}
 use Rattle.rules.proofs.Runs.Sound.{standing-list}
 
 -- a search as an opening gives it: nothing told, nothing counted
 pub record Begun (o : Search) : Type 0 where
   pub inv : Inv [] o
-  pub room : Room o
+  pub below : BelowBudget o
   pub counts : o .counts ≡ noCounts
   pub phase : o .phase ≡ Building 0
 
 pub fresh-begun : (n : ℕ) (axes : List Axis) (rule : RuleChoice) (c : Coefficients) (budget : ℕ) → Sane (fresh n axes rule c budget .setup) → Begun (fresh n axes rule c budget)
 unfolding fresh
-fresh-begun n axes rule c budget h = record { inv = fresh-inv n axes rule c budget h; room = fresh-room n axes rule c budget h; counts = refl; phase = refl }
+fresh-begun n axes rule c budget h = record { inv = fresh-inv n axes rule c budget h; below = fresh-below n axes rule c budget h; counts = refl; phase = refl }
 
 module _ (o : Search) (begun : Begun o) where
   module _ (h : List ℕ) (t : Joined o h) where
     pub whole-run : Ran [] o h
-    whole-run = ran [] o (begun .inv) (begun .room) h t
+    whole-run = ran [] o (begun .inv) (begun .below) h t
 
     pub run-inv : Inv (readingsOf o h) (run o h)
     run-inv = whole-run .inv
@@ -98,4 +98,4 @@ module _ (o : Search) (begun : Begun o) where
 
     -- the best's point has n coordinates and zeros after them
     pub best-shape : 0 < length h → firstOf (run o h .setup .n) 0ᶠ (run o h .best .point) ≡ run o h .best .point
-    best-shape l = run-inv .noted .fine (run o h .best) (best-mem (readingsOf o h) (run o h .best) (run-inv .noted .least (omega (arith, run-readings)))) .shape
+    best-shape l = run-inv .noted .shapes (run o h .best) (best-mem (readingsOf o h) (run o h .best) (run-inv .noted .least (omega (arith, run-readings)))) .shape

@@ -54,7 +54,7 @@ shown-search (Refused r) s = refl
 module _ (o : Search) (begun : Begun o) (h : List ℕ) (t : Joined o h) where
   -- refusal 12 is not given
   pub run-undamaged : undamaged (run o h) ≡ true
-  run-undamaged = let r = whole-run o begun h t in never-damaged (readingsOf o h) (run o h) (r .inv) (r .room)
+  run-undamaged = let r = whole-run o begun h t in never-damaged (readingsOf o h) (run o h) (r .inv) (r .below)
 
   -- ---- tell
 

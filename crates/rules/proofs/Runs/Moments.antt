@@ -7,10 +7,11 @@ use Prim.Native.Nat.{ℕ, suc, _+_, _*_, _≤_, _<_}
 use native.Mathlib.Omega.{arith}
 use lib.ListN.{length, getD, take, drop, length-append}
 use lib.Seq.{append-snoc, split-at}
+use Rattle.rules.specs.Numbers.{maxCost}
 use Rattle.rules.specs.Simplex.{point}
 use Rattle.rules.specs.Trial.{trial}
 use Rattle.rules.specs.Accept.{Piece, build, shrink, run}
-use Rattle.rules.specs.Calls.{isEnded, maxCost, standingOf}
+use Rattle.rules.specs.Calls.{isEnded, standingOf}
 use Rattle.rules.specs.History.{reading, EarliestLeast}
 use Rattle.rules.specs.Tally.{made, others, Ends}
 use Rattle.rules.specs.Claims.{Within, standingTotal, FullRound}
@@ -65,7 +66,7 @@ module _ (o : Search) (begun : Begun o) where
     pub run-first : Ends o before c → (k : ℕ) × EarliestLeast (before ++ c ∷ []) k × (take 1 (standingOf (run o (before ++ c ∷ []))) ≡ reading o (before ++ c ∷ since) k ∷ [])
     run-first ends =
         let r = whole-run o begun before (joined-left o before (c ∷ since) t) in
-        let g = accept-step (readingsOf o before) (run o before) (r .inv) (r .room) c (accepts-here .0) (accepts-here .1) in
+        let g = accept-step (readingsOf o before) (run o before) (r .inv) (r .below) c (accepts-here .0) (accepts-here .1) in
         let leads : Leads (standingOf (run o (before ++ c ∷ []))) (run o (before ++ c ∷ []) .best) = rw (run-snoc o before c) (g .first ends) in
         let b = run-best o begun (before ++ c ∷ []) joined-here (simp length-append (omega arith)) in
         let same : reading o (before ++ c ∷ since) (b .0) ≡ reading o (before ++ c ∷ []) (b .0) = rw (← split) (reading-append o (before ++ c ∷ []) since (b .0) (b .1 .told)) in
@@ -80,13 +81,13 @@ module _ (o : Search) (begun : Begun o) where
     falls-since builds shrinks =
         let here = before ++ c ∷ [] in
         let r = whole-run o begun here joined-here in
-        omega (arith, ran (readingsOf o here) (run o here) (r .inv) (r .room) since joined-since .falls builds shrinks)
+        omega (arith, ran (readingsOf o here) (run o here) (r .inv) (r .below) since joined-since .falls builds shrinks)
 
   -- ---- settled exactly when
 
   pub run-settled-only : (h : List ℕ) → Joined o h → run o h .phase ≡ Ended Settled → (before : List ℕ) × (round : List ℕ) × (h ≡ before ++ round) × FullRound o before round
   unfolding run
-  run-settled-only h t e = rw e at (rounds o [] o refl [] (begun .inv) (begun .room) refl (rw (begun .phase) tt) h t)
+  run-settled-only h t e = rw e at (rounds o [] o refl [] (begun .inv) (begun .below) refl (rw (begun .phase) tt) h t)
 
   pub run-settled-when : (before round : List ℕ) → Joined o (before ++ round) → FullRound o before round → run o (before ++ round) .phase ≡ Ended Settled
   run-settled-when before round t f =
@@ -94,7 +95,7 @@ module _ (o : Search) (begun : Begun o) where
       let s = run o before in
       let many : 0 + length round ≡ 2 * s .setup .n = rw (r .kept) (omega (arith, f .full)) in
       rw (run-append o before round)
-      (settles (readingsOf o before) s (r .inv) (r .room) round 0 (f .begins) many (omega (arith, r .inv .noted .sane .atLeast)) (f .noneLower) (joined-right o before round t))
+      (settles (readingsOf o before) s (r .inv) (r .below) round 0 (f .begins) many (omega (arith, r .inv .noted .sane .atLeast)) (f .noneLower) (joined-right o before round t))
 
   -- ---- the budget
 
@@ -112,7 +113,7 @@ module _ (o : Search) (begun : Begun o) where
       where
         go : (e : Bool) → isEnded (run o h .phase) ≡ e → isEnded (run o h .phase) ≡ true
         go true e = e
-        go false e = absurd (omega (arith, whole-run o begun h t .room e, run-readings o begun h t, same-budget))
+        go false e = absurd (omega (arith, whole-run o begun h t .below e, run-readings o begun h t, same-budget))
 
     pub run-spent : (run o h .phase ≡ Ended Budget) ↔ ((length h ≡ o .setup .budget) × (run o h .phase ≡ Ended Settled → ⊥))
     run-spent = (

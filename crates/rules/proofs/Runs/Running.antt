@@ -19,8 +19,8 @@ use Rattle.rules.proofs.Laws.Openings.{Sane}
 use Rattle.rules.proofs.Laws.Histories.{readingOf, readingsOf, Joined, countOf-append}
 use Rattle.rules.proofs.Steps.Invariant.{Inv}
 use Rattle.rules.proofs.Steps.Noting.{_▹_}
-use Rattle.rules.proofs.Steps.Stepping.{Counted, Stepped, othersIn, standingCosts}
-use Rattle.rules.proofs.Steps.Accepting.{Room, accept-step, accept-room}
+use Rattle.rules.proofs.Steps.Stepping.{Counted, TakesReading, othersIn, standingCosts}
+use Rattle.rules.proofs.Steps.Accepting.{BelowBudget, accept-step, accept-below}
 
 -- ---- counts of one list of pieces after another
 
@@ -44,15 +44,15 @@ counted-append ps qs k l c d e h g =
 -- s takes the costs of h, one after the other; rs are its readings before
 pub record Ran (rs : List Vertex) (s : Search) (h : List ℕ) : Type 0 where
   pub inv : Inv (rs ++ readingsOf s h) (run s h)
-  pub room : Room (run s h)
+  pub below : BelowBudget (run s h)
   pub kept : run s h .setup ≡ s .setup
   pub counts : Counted (pieces s h) (probesIn s h) (s .counts) (run s h .counts)
   pub unfinished : run s h .counts .unfinished ≡ openIn (s .counts .unfinished) s h
   pub falls : countOf build (pieces s h) ≡ 0 → countOf shrink (pieces s h) ≡ 0 → othersIn (pieces s h) + standingCosts (run s h) ≤ standingCosts s
 
-ran-none : (rs : List Vertex) (s : Search) → Inv rs s → Room s → Ran rs s []
+ran-none : (rs : List Vertex) (s : Search) → Inv rs s → BelowBudget s → Ran rs s []
 unfolding run readingsOf pieces probesIn openIn countOf
-ran-none rs s inv room = record { inv = rw append-nil inv; room = room; kept = refl; counts = counted-none (s .counts); unfinished = refl; falls = λ a b. omega arith }
+ran-none rs s inv below = record { inv = rw append-nil inv; below = below; kept = refl; counts = counted-none (s .counts); unfinished = refl; falls = λ a b. omega arith }
 
 -- the sum falls over one list of pieces after another
 falls-append : (ps qs : List Piece) (a b c : ℕ)
@@ -65,7 +65,7 @@ falls-append ps qs a b c h g x y =
     let second = g (omega arith) (omega arith) in
     rw (countOf-append reflection ps qs, countOf-append expansion ps qs, countOf-append contraction ps qs) (omega arith)
 
-ran-more : (rs : List Vertex) (s : Search) (c : ℕ) (h : List ℕ) → Stepped (rs ▹ readingOf s c) (finishes (s .phase) s c) (isProbe (s .phase)) s (accept s c)
+ran-more : (rs : List Vertex) (s : Search) (c : ℕ) (h : List ℕ) → TakesReading (rs ▹ readingOf s c) (finishes (s .phase) s c) (isProbe (s .phase)) s (accept s c)
     → Ran (rs ▹ readingOf s c) (accept s c) h → Ran rs s (c ∷ h)
 unfolding run readingsOf pieces probesIn openIn
 ran-more rs s c h g r =
@@ -73,19 +73,19 @@ ran-more rs s c h g r =
     let u = accept s c in
     record {
       inv = rw (append-snoc rs (readingOf s c) (readingsOf u h)) at (r .inv);
-      room = r .room;
+      below = r .below;
       kept = r .kept ∙ g .kept;
       counts = counted-append ps (pieces u h) (isProbe (s .phase)) (probesIn u h) (s .counts) (u .counts) (run u h .counts) (g .counts) (r .counts);
       unfinished = r .unfinished ∙ ap (λ (k : ℕ). openIn k u h) (g .unfinished);
       falls = falls-append ps (pieces u h) (standingCosts s) (standingCosts u) (standingCosts (run u h)) (g .falls) (r .falls);
     }
 
-pub ran : (rs : List Vertex) (s : Search) → Inv rs s → Room s → (h : List ℕ) → Joined s h → Ran rs s h
+pub ran : (rs : List Vertex) (s : Search) → Inv rs s → BelowBudget s → (h : List ℕ) → Joined s h → Ran rs s h
 unfolding Joined
-ran rs s inv room [] t = ran-none rs s inv room
-ran rs s inv room (c ∷ h) t =
-    let g = accept-step rs s inv room c (t .0) (t .1) in
-    ran-more rs s c h g (ran (rs ▹ readingOf s c) (accept s c) (g .inv) (accept-room rs s inv room c (t .0) (t .1)) h (t .2))
+ran rs s inv below [] t = ran-none rs s inv below
+ran rs s inv below (c ∷ h) t =
+    let g = accept-step rs s inv below c (t .0) (t .1) in
+    ran-more rs s c h g (ran (rs ▹ readingOf s c) (accept s c) (g .inv) (accept-below rs s inv below c (t .0) (t .1)) h (t .2))
 
 -- ---- from the opening on
 
@@ -96,7 +96,7 @@ module _ (n : ℕ) (axes : List Axis) (rule : RuleChoice) (c : Coefficients) (bu
       record {
         vs = [];
         gs = [];
-        noted = record { sane = sane; told = refl; room = omega arith; fine = λ v m. absurd (List·Memᴰ·not-nil m); least = λ l. absurd (not-suc-le-zero l); low = omega arith };
+        noted = record { sane = sane; told = refl; below = omega arith; shapes = λ v m. absurd (List·Memᴰ·not-nil m); least = λ l. absurd (not-suc-le-zero l); low = omega arith };
         stands = record { are = refl; none = λ e. refl; all = λ l. absurd (not-suc-le-zero l); sorted = tt; known = λ v m. m };
         gathers = record { are = refl; known = λ v m. m };
         equation = omega arith;
@@ -113,6 +113,6 @@ module _ (n : ℕ) (axes : List Axis) (rule : RuleChoice) (c : Coefficients) (bu
             };
       }
 
-  pub fresh-room : Room (fresh n axes rule c budget)
+  pub fresh-below : BelowBudget (fresh n axes rule c budget)
   unfolding fresh
-  fresh-room e = omega (arith, sane .enough)
+  fresh-below e = omega (arith, sane .enough)

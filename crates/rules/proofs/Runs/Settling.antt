@@ -8,8 +8,9 @@ use native.Mathlib.Omega.{arith}
 use native.Mathlib.Nat.{not-suc-le-zero}
 use lib.ListN.{length, getD, length-append}
 use lib.Seq.{append-snoc}
+use Rattle.rules.specs.Numbers.{maxCost}
 use Rattle.rules.specs.Accept.{bestAfter, noted, endsRound, isFull, probedOn, advanced, spentPhase, isSpent, budgeted, accept, run}
-use Rattle.rules.specs.Calls.{isEnded, maxCost}
+use Rattle.rules.specs.Calls.{isEnded}
 use Rattle.rules.specs.Tally.{isProbe}
 use Rattle.rules.specs.Claims.{FullRound}
 use Rattle.rules.specs.declared.Vertex.{Vertex}
@@ -23,7 +24,7 @@ use Rattle.rules.proofs.Laws.Histories.{readingOf, Joined, run-snoc}
 use Rattle.rules.proofs.Steps.Invariant.{Inv}
 use Rattle.rules.proofs.Steps.Noting.{_▹_, best-stays, below-snoc, old-cost, new-cost}
 use Rattle.rules.proofs.Steps.Stepping.{NoRound}
-use Rattle.rules.proofs.Steps.Accepting.{Room, accept-step, accept-room}
+use Rattle.rules.proofs.Steps.Accepting.{BelowBudget, accept-step, accept-below}
 
 -- ---- a probe told
 
@@ -90,17 +91,17 @@ earlier-goes b c j n q (settling l k e) h m live = absurd (m k)
 earlier-goes b c j n q (going l k e) h m live = e
 earlier-goes b c j n q (stopping k e) h m live = absurd (true≢false (sym (ap isEnded e) ∙ live))
 
-pub settles : (rs : List Vertex) (s : Search) → Inv rs s → Room s → (q : List ℕ) (j : ℕ) → s .phase ≡ Probing j → j + length q ≡ 2 * s .setup .n → 1 ≤ length q
+pub settles : (rs : List Vertex) (s : Search) → Inv rs s → BelowBudget s → (q : List ℕ) (j : ℕ) → s .phase ≡ Probing j → j + length q ≡ 2 * s .setup .n → 1 ≤ length q
     → ((i : ℕ) → i < length q → s .best .cost ≤ getD q i 0) → Joined s q → run s q .phase ≡ Ended Settled
 unfolding run Joined
-settles rs s inv room [] j e many some low t = absurd (not-suc-le-zero some)
-settles rs s inv room (c ∷ []) j e many some low t = last-settles (s .best .cost) c j (s .setup .n) (accept s c .phase) (outcome s c j e) (low 0 (omega arith)) many
-settles rs s inv room (c ∷ d ∷ q) j e many some low t =
+settles rs s inv below [] j e many some low t = absurd (not-suc-le-zero some)
+settles rs s inv below (c ∷ []) j e many some low t = last-settles (s .best .cost) c j (s .setup .n) (accept s c .phase) (outcome s c j e) (low 0 (omega arith)) many
+settles rs s inv below (c ∷ d ∷ q) j e many some low t =
     let l = low 0 (omega arith) in
     let k = earlier-goes (s .best .cost) c j (s .setup .n) (accept s c .phase) (outcome s c j e) l (omega arith) (t .2 .0) in
-    let g = accept-step rs s inv room c (t .0) (t .1) in
+    let g = accept-step rs s inv below c (t .0) (t .1) in
     let b = best-kept s c j e rs inv l in
-    settles (rs ▹ readingOf s c) (accept s c) (g .inv) (accept-room rs s inv room c (t .0) (t .1)) (d ∷ q) (j + 1) k (rw (g .kept) (omega arith)) (omega arith)
+    settles (rs ▹ readingOf s c) (accept s c) (g .inv) (accept-below rs s inv below c (t .0) (t .1)) (d ∷ q) (j + 1) k (rw (g .kept) (omega arith)) (omega arith)
     (λ i m. rw b (low (suc i) (suc-le-suc m))) (t .2)
 
 -- ---- nothing else does
@@ -162,13 +163,13 @@ round-on o h j b c d q r (stopping m e) k = rw e tt
 
 -- ---- along a history
 
-module _ (o : Search) (h : List ℕ) (s : Search) (is : run o h ≡ s) (rs : List Vertex) (inv : Inv rs s) (room : Room s) (kept : s .setup ≡ o .setup) (c : ℕ) (live : isEnded (s .phase) ≡ false) (low : c ≤ maxCost) where
+module _ (o : Search) (h : List ℕ) (s : Search) (is : run o h ≡ s) (rs : List Vertex) (inv : Inv rs s) (below : BelowBudget s) (kept : s .setup ≡ o .setup) (c : ℕ) (live : isEnded (s .phase) ≡ false) (low : c ≤ maxCost) where
   next : run o (h ++ c ∷ []) ≡ accept s c
   next = run-snoc o h c ∙ ap (λ (u : Search). accept u c) is
 
   new-round : isProbe (s .phase) ≡ 0 → Rounds o (h ++ c ∷ []) (accept s c .best .cost) (accept s c .phase)
   new-round e =
-      rw next at (round-begins o (h ++ c ∷ []) (run o (h ++ c ∷ []) .phase) refl (rw next (accept-step rs s inv room c live low .noRound e)))
+      rw next at (round-begins o (h ++ c ∷ []) (run o (h ++ c ∷ []) .phase) refl (rw next (accept-step rs s inv below c live low .noRound e)))
 
   same-round : (j : ℕ) → s .phase ≡ Probing j → Round o h j (s .best .cost) → Rounds o (h ++ c ∷ []) (accept s c .best .cost) (accept s c .phase)
   same-round j e r =
@@ -184,13 +185,13 @@ module _ (o : Search) (h : List ℕ) (s : Search) (is : run o h ≡ s) (rs : Lis
   round-step (Probing j) e r = same-round j e r
   round-step (Ended cause) e r = new-round (ap isProbe e)
 
-pub rounds : (o : Search) (p : List ℕ) (s : Search) → run o p ≡ s → (rs : List Vertex) → Inv rs s → Room s → s .setup ≡ o .setup → Rounds o p (s .best .cost) (s .phase)
+pub rounds : (o : Search) (p : List ℕ) (s : Search) → run o p ≡ s → (rs : List Vertex) → Inv rs s → BelowBudget s → s .setup ≡ o .setup → Rounds o p (s .best .cost) (s .phase)
     → (q : List ℕ) → Joined s q → Rounds o (p ++ q) (run s q .best .cost) (run s q .phase)
 unfolding run Joined
-rounds o p s is rs inv room kept r [] t = rw append-nil r
-rounds o p s is rs inv room kept r (c ∷ q) t =
-    let g = accept-step rs s inv room c (t .0) (t .1) in
-    let after = next o p s is rs inv room kept c (t .0) (t .1) in
-    let on = round-step o p s is rs inv room kept c (t .0) (t .1) (s .phase) refl r in
+rounds o p s is rs inv below kept r [] t = rw append-nil r
+rounds o p s is rs inv below kept r (c ∷ q) t =
+    let g = accept-step rs s inv below c (t .0) (t .1) in
+    let after = next o p s is rs inv below kept c (t .0) (t .1) in
+    let on = round-step o p s is rs inv below kept c (t .0) (t .1) (s .phase) refl r in
     rw (append-snoc p c q) at
-    (rounds o (p ++ c ∷ []) (accept s c) after (rs ▹ readingOf s c) (g .inv) (accept-room rs s inv room c (t .0) (t .1)) (g .kept ∙ kept) on q (t .2))
+    (rounds o (p ++ c ∷ []) (accept s c) after (rs ▹ readingOf s c) (g .inv) (accept-below rs s inv below c (t .0) (t .1)) (g .kept ∙ kept) on q (t .2))

@@ -8,8 +8,9 @@ use native.Mathlib.Nat.{mul-le-mul-right}
 use lib.ListN.{length}
 use lib.Dec.{eqb, leb}
 use borrow.Author.Tests.{le-leb}
+use Rattle.rules.specs.Numbers.{maxCost}
 use Rattle.rules.specs.Simplex.{upTo, unpack, Ordered, costOf}
-use Rattle.rules.specs.Calls.{isEnded, maxCost, soundPhase, gatheredIn, standingOf, inOrder, sound, undamaged}
+use Rattle.rules.specs.Calls.{isEnded, soundPhase, gatheredIn, standingOf, inOrder, sound, undamaged}
 use Rattle.rules.specs.declared.Vertex.{Vertex}
 use Rattle.rules.specs.declared.Search.{Search}
 use Rattle.rules.specs.declared.Phase.{Phase}
@@ -19,7 +20,7 @@ use Rattle.rules.proofs.Laws.Order.{in-order}
 use Rattle.rules.proofs.Laws.Places.{costs-pack}
 use Rattle.rules.proofs.Steps.Invariant.{Known, At, Inv}
 use Rattle.rules.proofs.Steps.Stepping.{standing-are, gathered-are}
-use Rattle.rules.proofs.Steps.Accepting.{Room}
+use Rattle.rules.proofs.Steps.Accepting.{BelowBudget}
 
 or-right : (a b : Bool) → b ≡ true → (a || b) ≡ true
 or-right true b h = refl
@@ -59,12 +60,12 @@ module _ (rs : List Vertex) (s : Search) (inv : Inv rs s) where
   standing-list = standing-are rs (inv .vs) (s .setup) (s .readings) (s .best) (s .counts .builds) (s .standing) (inv .noted) (inv .stands)
 
   low-costs : (vs : List Vertex) → Known vs rs → (v : Vertex) → List·Memᴰ v vs → v .cost ≤ maxCost
-  low-costs vs h v m = inv .noted .fine v (h v m) .low
+  low-costs vs h v m = inv .noted .shapes v (h v m) .low
 
   -- by the equation no count is above the readings
   pub sound-live : s .readings < s .setup .budget → sound s ≡ true
   unfolding sound
-  sound-live room =
+  sound-live below =
       let t = inv .noted .sane in
       let builds : 1 * s .counts .builds ≤ s .setup .n * s .counts .builds = mul-le-mul-right (s .counts .builds) (t .atLeast) in
       let standing : inOrder (standingOf s) ≡ true = rw standing-list (in-order (inv .vs) (inv .stands .sorted)) in
@@ -79,9 +80,9 @@ module _ (rs : List Vertex) (s : Search) (inv : Inv rs s) where
         omega (arith, tests, inv .noted .low),
       )
 
-  pub never-damaged : Room s → undamaged s ≡ true
-  never-damaged room = go (isEnded (s .phase)) refl
+  pub never-damaged : BelowBudget s → undamaged s ≡ true
+  never-damaged below = go (isEnded (s .phase)) refl
     where
       go : (b : Bool) → isEnded (s .phase) ≡ b → (b || sound s) ≡ true
       go true e = refl
-      go false e = sound-live (room e)
+      go false e = sound-live (below e)

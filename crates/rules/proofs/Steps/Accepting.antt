@@ -4,10 +4,11 @@ use mathlib.Core.Bool.{true, false, true≢false}
 use mathlib.Core.List.{List}
 use Prim.Native.Nat.{ℕ, _+_, _≤_, _<_}
 use native.Mathlib.Omega.{arith}
+use Rattle.rules.specs.Numbers.{maxCost}
 use Rattle.rules.specs.Simplex.{point}
 use Rattle.rules.specs.Trial.{trial, asked}
 use Rattle.rules.specs.Accept.{Piece, bestAfter, noted, advanced, spentPhase, isSpent, budgeted, accept}
-use Rattle.rules.specs.Calls.{maxCost, isEnded}
+use Rattle.rules.specs.Calls.{isEnded}
 use Rattle.rules.specs.Tally.{finishes, isProbe}
 use Rattle.rules.specs.declared.Vertex.{Vertex}
 use Rattle.rules.specs.declared.Search.{Search}
@@ -18,9 +19,9 @@ use Rattle.rules.specs.declared.Cause.the-variants.{Budget}
 use Rattle.rules.proofs.Laws.Tests.{tests, spent-elim}
 use Rattle.rules.proofs.Laws.Lists.{length-point, point-again}
 use Rattle.rules.proofs.Laws.Histories.{readingOf}
-use Rattle.rules.proofs.Steps.Invariant.{Fine, Noted, At, Inv}
+use Rattle.rules.proofs.Steps.Invariant.{ReadingShape, Noted, At, Inv}
 use Rattle.rules.proofs.Steps.Noting.{_▹_, NotedWith, note}
-use Rattle.rules.proofs.Steps.Stepping.{Stepped, NoRound}
+use Rattle.rules.proofs.Steps.Stepping.{TakesReading, NoRound}
 use Rattle.rules.proofs.Steps.Gathering.{build-step, shrink-step}
 use Rattle.rules.proofs.Steps.Iterating.{reflect-step, expand-step, contract-step}
 use Rattle.rules.proofs.Steps.Probing.{probe-step}
@@ -29,7 +30,7 @@ use Rattle.rules.proofs.Steps.Probing.{probe-step}
 
 module _ (rs : List Vertex) (v : Vertex) (s : Search) (inv : Inv rs s) (after : NotedWith v rs s) where
   advance : (p : Phase) → isEnded p ≡ false → v .point ≡ point (s .setup .n) (asked s p) → At p (s .setup) (s .standing) (inv .vs) (inv .gs) (s .readings) (s .counts) (s .best)
-      → Stepped (rs ▹ v) (finishes p s (v .cost)) (isProbe p) s (advanced p (s .best .cost) v (noted v s))
+      → TakesReading (rs ▹ v) (finishes p s (v .cost)) (isProbe p) s (advanced p (s .best .cost) v (noted v s))
   unfolding advanced
   advance (Building i) e shape h = build-step rs v s inv after i h
   advance Reflecting e shape h = reflect-step rs v s inv after (h .0) (h .1) shape
@@ -66,16 +67,16 @@ spent-no-round : (u : Search) → NoRound (u .phase) → NoRound (budgeted u .ph
 spent-no-round u h = spent-elim NoRound (isSpent u) (λ e. spent-cases NoRound (u .phase) tt (λ cause q. subst NoRound q h)) (λ e. h)
 
 -- a search that has not ended has readings left
-abbrev pub Room : Search → Type 0
-Room s = isEnded (s .phase) ≡ false → s .readings < s .setup .budget
+abbrev pub BelowBudget : Search → Type 0
+BelowBudget s = isEnded (s .phase) ≡ false → s .readings < s .setup .budget
 
-budget-room : (rs : List Vertex) (u : Search) → Inv rs u → Room (budgeted u)
-budget-room rs u inv =
+below-budget : (rs : List Vertex) (u : Search) → Inv rs u → BelowBudget (budgeted u)
+below-budget rs u inv =
     spent-elim (λ (p : Phase). isEnded p ≡ false → u .readings < u .setup .budget) (isSpent u)
     (λ e l. absurd (true≢false (sym (spent-ends (u .phase)) ∙ l)))
-    (λ e l. omega (arith, tests, inv .noted .room))
+    (λ e l. omega (arith, tests, inv .noted .below))
 
-budget-step : (rs : List Vertex) (ps : List Piece) (probe : ℕ) (s u : Search) → Stepped rs ps probe s u → Stepped rs ps probe s (budgeted u)
+budget-step : (rs : List Vertex) (ps : List Piece) (probe : ℕ) (s u : Search) → TakesReading rs ps probe s u → TakesReading rs ps probe s (budgeted u)
 budget-step rs ps probe s u h =
     let i = h .inv in
     record {
@@ -99,24 +100,24 @@ budget-step rs ps probe s u h =
 
 -- ---- the accepted reading
 
-fine-trial : (s : Search) (c : ℕ) → s .setup .n ≤ 8 → c ≤ maxCost → Fine (s .setup .n) (readingOf s c)
+trial-shape : (s : Search) (c : ℕ) → s .setup .n ≤ 8 → c ≤ maxCost → ReadingShape (s .setup .n) (readingOf s c)
 unfolding trial
-fine-trial s c l h =
+trial-shape s c l h =
     let f = asked s (s .phase) in
     record { shape = point-again (s .setup .n) f; eight = length-point (s .setup .n) f l; low = h }
 
-module _ (rs : List Vertex) (s : Search) (inv : Inv rs s) (room : Room s) (c : ℕ) (live : isEnded (s .phase) ≡ false) (low : c ≤ maxCost) where
+module _ (rs : List Vertex) (s : Search) (inv : Inv rs s) (below : BelowBudget s) (c : ℕ) (live : isEnded (s .phase) ≡ false) (low : c ≤ maxCost) where
   noted-now : Noted (rs ▹ readingOf s c) (s .setup) (s .readings + 1) (bestAfter (s .readings) (readingOf s c) (s .best))
-  noted-now = note rs (s .setup) (s .readings) (s .best) (readingOf s c) (inv .noted) (fine-trial s c (inv .noted .sane .atMost8) low) (room live)
+  noted-now = note rs (s .setup) (s .readings) (s .best) (readingOf s c) (inv .noted) (trial-shape s c (inv .noted .sane .atMost8) low) (below live)
 
-  advanced-now : Stepped (rs ▹ readingOf s c) (finishes (s .phase) s c) (isProbe (s .phase)) s (advanced (s .phase) (s .best .cost) (readingOf s c) (noted (readingOf s c) s))
+  advanced-now : TakesReading (rs ▹ readingOf s c) (finishes (s .phase) s c) (isProbe (s .phase)) s (advanced (s .phase) (s .best .cost) (readingOf s c) (noted (readingOf s c) s))
   unfolding trial
   advanced-now = advance rs (readingOf s c) s inv noted-now (s .phase) live refl (inv .phase)
 
-  pub accept-step : Stepped (rs ▹ readingOf s c) (finishes (s .phase) s c) (isProbe (s .phase)) s (accept s c)
+  pub accept-step : TakesReading (rs ▹ readingOf s c) (finishes (s .phase) s c) (isProbe (s .phase)) s (accept s c)
   unfolding accept
   accept-step = budget-step (rs ▹ readingOf s c) (finishes (s .phase) s c) (isProbe (s .phase)) s _ advanced-now
 
-  pub accept-room : Room (accept s c)
+  pub accept-below : BelowBudget (accept s c)
   unfolding accept
-  accept-room = budget-room (rs ▹ readingOf s c) _ (advanced-now .inv)
+  accept-below = below-budget (rs ▹ readingOf s c) _ (advanced-now .inv)

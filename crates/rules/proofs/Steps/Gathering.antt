@@ -6,7 +6,7 @@ use native.Mathlib.Omega.{arith}
 use lib.ListN.{length}
 use lib.Ieee.{Float}
 use Rattle.rules.specs.Simplex.{pack, unpack, insert}
-use Rattle.rules.specs.Accept.{build, shrink, opened, bestAfter, noted, isLast, finished, waiting, withGathered, firstOpen, builtOn, shrunkOn}
+use Rattle.rules.specs.Accept.{build, shrink, addOpen, bestAfter, noted, isLast, finished, waiting, withGathered, firstOpen, builtOn, shrunkOn}
 use Rattle.rules.specs.Tally.{countOf, finishes}
 use Rattle.rules.specs.declared.Vertex.{Vertex}
 use Rattle.rules.specs.declared.Search.{Search}
@@ -15,7 +15,7 @@ use Rattle.rules.proofs.Laws.Tests.{tests, pick-elim}
 use Rattle.rules.proofs.Laws.Order.{length-insert, ordered-insert}
 use Rattle.rules.proofs.Steps.Invariant.{Leads, Gathers, AtBuild, AtShrink, Inv}
 use Rattle.rules.proofs.Steps.Noting.{_▹_, NotedWith, known-more, known-new, leads-on}
-use Rattle.rules.proofs.Steps.Stepping.{Stepped, pieces-are, gathered-are, finish}
+use Rattle.rules.proofs.Steps.Stepping.{TakesReading, pieces-are, gathered-are, finish}
 use Rattle.rules.proofs.Laws.Finishing.{last-ends, other-more}
 use Rattle.rules.proofs.Steps.Moving.{known-insert, goes-on, begins}
 
@@ -61,14 +61,14 @@ module _ (rs : List Vertex) (v : Vertex) (s : Search) (inv : Inv rs s) (after : 
     leads-built : Leads (insert v (inv .gs)) (bestAfter (s .readings) v (s .best))
     leads-built = leads-build i (inv .gs) v (s .best) (s .readings) (h .many) (h .leads) (h .some) none-yet
 
-    build-ends : i ≡ s .setup .n → Stepped (rs ▹ v) (build ∷ []) 0 s (finished build [] [] (insert v (inv .gs)) (noted v s))
+    build-ends : i ≡ s .setup .n → TakesReading (rs ▹ v) (build ∷ []) 0 s (finished build [] [] (insert v (inv .gs)) (noted v s))
     unfolding countOf
     build-ends e =
         let l : 1 ≤ i = omega (arith, after .sane .atLeast) in
         finish rs v s build [] [] (insert v (inv .gs)) after (length-insert v (inv .gs) ∙ omega (arith, h .many)) (ordered-insert v (inv .gs) (h .sorted)) (gathers-on .known) leads-built
         (inv .equation) (h .some l) (omega (arith, h .unfinished)) (omega arith) (λ a b. absurd (omega arith))
 
-    build-next : (k : ℕ) → s .counts .unfinished + k ≡ i → i < s .setup .n → AtBuild (i + 1) (s .setup .n) (insert v (inv .gs)) (s .readings + 1) (opened k (s .counts)) (bestAfter (s .readings) v (s .best))
+    build-next : (k : ℕ) → s .counts .unfinished + k ≡ i → i < s .setup .n → AtBuild (i + 1) (s .setup .n) (insert v (inv .gs)) (s .readings + 1) (addOpen k (s .counts)) (bestAfter (s .readings) v (s .best))
     build-next k u l =
         record {
           high = omega arith;
@@ -81,7 +81,7 @@ module _ (rs : List Vertex) (v : Vertex) (s : Search) (inv : Inv rs s) (after : 
           some = λ m. omega arith;
         }
 
-    build-on : (j : ℕ) → i ≡ j → i < s .setup .n → Stepped (rs ▹ v) [] 0 s (waiting (Building (i + 1)) (firstOpen (s .counts .builds) i) (withGathered (insert v (inv .gs)) (noted v s)))
+    build-on : (j : ℕ) → i ≡ j → i < s .setup .n → TakesReading (rs ▹ v) [] 0 s (waiting (Building (i + 1)) (firstOpen (s .counts .builds) i) (withGathered (insert v (inv .gs)) (noted v s)))
     build-on zero e l =
         let f : firstOpen (s .counts .builds) i ≡ 0 = rw (first-build e, e) in
         rw f
@@ -93,11 +93,11 @@ module _ (rs : List Vertex) (v : Vertex) (s : Search) (inv : Inv rs s) (after : 
         (goes-on rs v s inv after (Building (i + 1)) (insert v (inv .gs)) (pack (insert v (inv .gs))) gathers-on (h .some (omega arith))
         (build-next 1 (omega (arith, h .unfinished)) l) tt)
 
-    pub build-step : Stepped (rs ▹ v) (finishes (Building i) s (v .cost)) 0 s (builtOn i v (noted v s))
+    pub build-step : TakesReading (rs ▹ v) (finishes (Building i) s (v .cost)) 0 s (builtOn i v (noted v s))
     unfolding builtOn
     build-step =
         rw (gathered i (h .many))
-        (pick-elim (Stepped (rs ▹ v) (finishes (Building i) s (v .cost)) 0 s) (isLast i s)
+        (pick-elim (TakesReading (rs ▹ v) (finishes (Building i) s (v .cost)) 0 s) (isLast i s)
         (λ e. pieces-are (last-ends build i (s .setup .n) (omega (arith, tests))) (build-ends (omega (arith, tests))))
         (λ e. pieces-are (other-more build i (s .setup .n) (omega (arith, tests))) (build-on i refl (omega (arith, tests, h .high)))))
 
@@ -107,13 +107,13 @@ module _ (rs : List Vertex) (v : Vertex) (s : Search) (inv : Inv rs s) (after : 
     leads-shrunk : Leads (insert v (inv .gs)) (bestAfter (s .readings) v (s .best))
     leads-shrunk = leads-on (inv .gs) v (s .best) (s .readings) (h .some) (h .leads)
 
-    shrink-ends : (old new : List (List Float)) → j ≡ s .setup .n → Stepped (rs ▹ v) (shrink ∷ []) 0 s (finished shrink old new (insert v (inv .gs)) (noted v s))
+    shrink-ends : (old new : List (List Float)) → j ≡ s .setup .n → TakesReading (rs ▹ v) (shrink ∷ []) 0 s (finished shrink old new (insert v (inv .gs)) (noted v s))
     unfolding countOf
     shrink-ends old new e =
         finish rs v s shrink old new (insert v (inv .gs)) after (length-insert v (inv .gs) ∙ omega (arith, h .many)) (ordered-insert v (inv .gs) (h .sorted)) (gathers-on .known) leads-shrunk
         (inv .equation) (h .some) (omega (arith, h .unfinished)) (h .stood) (λ a b. absurd (omega arith))
 
-    shrink-next : j < s .setup .n → AtShrink (j + 1) (s .setup .n) (insert v (inv .gs)) (s .readings + 1) (opened 1 (s .counts)) (bestAfter (s .readings) v (s .best))
+    shrink-next : j < s .setup .n → AtShrink (j + 1) (s .setup .n) (insert v (inv .gs)) (s .readings + 1) (addOpen 1 (s .counts)) (bestAfter (s .readings) v (s .best))
     shrink-next l =
         record {
           low = omega arith;
@@ -126,11 +126,11 @@ module _ (rs : List Vertex) (v : Vertex) (s : Search) (inv : Inv rs s) (after : 
           some = omega arith;
         }
 
-    pub shrink-step : Stepped (rs ▹ v) (finishes (Shrinking j) s (v .cost)) 0 s (shrunkOn j v (noted v s))
+    pub shrink-step : TakesReading (rs ▹ v) (finishes (Shrinking j) s (v .cost)) 0 s (shrunkOn j v (noted v s))
     unfolding shrunkOn
     shrink-step =
         rw (gathered j (h .many))
-        (pick-elim (Stepped (rs ▹ v) (finishes (Shrinking j) s (v .cost)) 0 s) (isLast j s)
+        (pick-elim (TakesReading (rs ▹ v) (finishes (Shrinking j) s (v .cost)) 0 s) (isLast j s)
         (λ e. pieces-are (last-ends shrink j (s .setup .n) (omega (arith, tests))) (shrink-ends _ _ (omega (arith, tests))))
         (λ e.
         pieces-are (other-more shrink j (s .setup .n) (omega (arith, tests)))

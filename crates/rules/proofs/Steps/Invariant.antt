@@ -4,9 +4,9 @@ use mathlib.Core.List.{List, [], _∷_, map, List·Memᴰ}
 use Prim.Native.Nat.{ℕ, _+_, _-_, _*_, _≤_, _<_}
 use lib.ListN.{length, getD, take}
 use Rattle.rules.specs.Binary64.{0ᶠ}
+use Rattle.rules.specs.Numbers.{maxCost}
 use Rattle.rules.specs.Simplex.{point, firstOf, blank, pack, costOf, Ordered}
 use Rattle.rules.specs.Trial.{reflected}
-use Rattle.rules.specs.Calls.{maxCost}
 use Rattle.rules.specs.History.{EarliestLeast}
 use Rattle.rules.specs.Tally.{readingsBy}
 use Rattle.rules.specs.declared.Vertex.{Vertex}
@@ -30,7 +30,7 @@ abbrev pub Leads : List Vertex → Vertex → Type 0
 Leads vs b = take 1 vs ≡ b ∷ []
 
 -- a reading is a point of n coordinates, zero after them, with a cost
-pub record Fine (n : ℕ) (v : Vertex) : Type 0 where
+pub record ReadingShape (n : ℕ) (v : Vertex) : Type 0 where
   pub shape : firstOf n 0ᶠ (v .point) ≡ v .point
   pub eight : length (v .point) ≡ 8
   pub low : v .cost ≤ maxCost
@@ -43,8 +43,8 @@ Best rs b = (k : ℕ) × EarliestLeast (map costOf rs) k × (getD rs k blank ≡
 pub record Noted (rs : List Vertex) (t : Setup) (readings : ℕ) (best : Vertex) : Type 0 where
   pub sane : Sane t
   pub told : readings ≡ length rs
-  pub room : readings ≤ t .budget
-  pub fine : (v : Vertex) → List·Memᴰ v rs → Fine (t .n) v
+  pub below : readings ≤ t .budget
+  pub shapes : (v : Vertex) → List·Memᴰ v rs → ReadingShape (t .n) v
   pub least : 1 ≤ readings → Best rs best
   pub low : best .cost ≤ maxCost
 
@@ -100,16 +100,16 @@ pub record AtExpand (f : ℕ) (t : Setup) (standing : Simplex) (vs : List Vertex
   pub lower : f < getD vs 0 blank .cost
 
 -- what the third and the fourth row know of fr
-abbrev pub Beside : Side → ℕ → ℕ → Type 0
-Beside Outside f w = f < w
-Beside Inside f w = Unit {0}
+abbrev pub RowBound : Side → ℕ → ℕ → Type 0
+RowBound Outside f w = f < w
+RowBound Inside f w = Unit {0}
 
 -- the first vertex is the best, and the reflected point of cost f is not lower
 pub record AtContract (side : Side) (f : ℕ) (n : ℕ) (vs : List Vertex) (best : Vertex) : Type 0 where
   pub leads : Leads vs best
   pub higher : best .cost ≤ f
   pub low : f ≤ maxCost
-  pub beside : Beside side f (getD vs n blank .cost)
+  pub row : RowBound side f (getD vs n blank .cost)
 
 -- what holds in each phase
 abbrev pub At : Phase → Setup → Simplex → List Vertex → List Vertex → ℕ → Counts → Vertex → Type 0

@@ -11,7 +11,7 @@ use lib.Seq.{length-take-le}
 use lib.Ieee.{Float}
 use Rattle.rules.specs.Simplex.{blank, unpack, insert, costOf}
 use Rattle.rules.specs.Stop.{total}
-use Rattle.rules.specs.Accept.{Piece, counted, opened, probedOnce, bestAfter, noted, taken}
+use Rattle.rules.specs.Accept.{Piece, counted, addOpen, probedOnce, bestAfter, noted, taken}
 use Rattle.rules.specs.Tally.{countOf, isOpen}
 use Rattle.rules.specs.declared.Vertex.{Vertex}
 use Rattle.rules.specs.declared.Simplex.{Simplex}
@@ -25,7 +25,7 @@ use Rattle.rules.proofs.Laws.Order.{length-insert, ordered-insert, mem-
 use Rattle.rules.proofs.Laws.Places.{unpack-take}
 use Rattle.rules.proofs.Steps.Invariant.{Known, Leads, Stands, Gathers, Equation, At, Inv}
 use Rattle.rules.proofs.Steps.Noting.{_▹_, NotedWith, known-more}
-use Rattle.rules.proofs.Steps.Stepping.{Counted, Stepped, NoRound, readingsIn, othersIn, standingCosts, standing-are, whole, finish}
+use Rattle.rules.proofs.Steps.Stepping.{Counted, TakesReading, NoRound, readingsIn, othersIn, standingCosts, standing-are, whole, finish}
 
 -- ---- laws that both ways share
 
@@ -64,7 +64,7 @@ module _ (rs : List Vertex) (v : Vertex) (s : Search) (inv : Inv rs s) (after : 
     pub takes : (p : Piece) (u x : Vertex) → List·Memᴰ u (rs ▹ v) → Leads (inv .vs) x → ((us : List Vertex) → Leads us x → Leads (insert u us) (bestAfter (s .readings) v (s .best)))
         → u .cost < getD (inv .vs) (s .setup .n) blank .cost → 1 ≤ s .readings → s .counts .unfinished + 1 ≡ readingsIn (s .setup .n) p
         → othersIn (p ∷ []) ≡ 1 → counted p (s .counts) .builds ≡ s .counts .builds
-        → Stepped (rs ▹ v) (p ∷ []) 0 s (taken p u (noted v s))
+        → TakesReading (rs ▹ v) (p ∷ []) 0 s (taken p u (noted v s))
     unfolding taken
     takes p u x mem leads enters low some unfinished one same =
         let n = s .setup .n in
@@ -87,7 +87,7 @@ module _ (rs : List Vertex) (v : Vertex) (s : Search) (inv : Inv rs s) (after : 
       → Gathers (rs ▹ v) gs gathered → Equation (s .setup .n) (s .readings + 1) c
       → c .unfinished ≡ cond (isOpen [] probe (s .readings)) (s .counts .unfinished + 1) 0
       → At p (s .setup) (s .standing) (inv .vs) gs (s .readings + 1) c (bestAfter (s .readings) v (s .best)) → (probe ≡ 0 → NoRound p)
-      → Stepped (rs ▹ v) [] probe s (ongoing p gathered center c)
+      → TakesReading (rs ▹ v) [] probe s (ongoing p gathered center c)
   unfolding countOf
   goes probe p gs gathered center c counts same gathers equation unfinished here none =
       record {
@@ -111,28 +111,28 @@ module _ (rs : List Vertex) (v : Vertex) (s : Search) (inv : Inv rs s) (after : 
 
   -- one reading more is open
   pub goes-on : (p : Phase) (gs : List Vertex) (gathered : Simplex) → Gathers (rs ▹ v) gs gathered → 1 ≤ s .readings
-      → At p (s .setup) (s .standing) (inv .vs) gs (s .readings + 1) (opened 1 (s .counts)) (bestAfter (s .readings) v (s .best)) → NoRound p
-      → Stepped (rs ▹ v) [] 0 s (ongoing p gathered (s .center) (opened 1 (s .counts)))
+      → At p (s .setup) (s .standing) (inv .vs) gs (s .readings + 1) (addOpen 1 (s .counts)) (bestAfter (s .readings) v (s .best)) → NoRound p
+      → TakesReading (rs ▹ v) [] 0 s (ongoing p gathered (s .center) (addOpen 1 (s .counts)))
   unfolding countOf
   goes-on p gs gathered gathers some here noRound =
       let unfinished = s .counts .unfinished in
       let more : unfinished + 1 ≡ cond (isOpen [] 0 (s .readings)) (unfinished + 1) 0 = cond-elim (λ (k : ℕ). unfinished + 1 ≡ k) (isOpen [] 0 (s .readings)) (λ e. refl) (λ e. absurd (omega (arith, tests))) in
-      goes 0 p gs gathered (s .center) (opened 1 (s .counts)) (omega arith) refl gathers (omega (arith, inv .equation)) more here (λ q. noRound)
+      goes 0 p gs gathered (s .center) (addOpen 1 (s .counts)) (omega arith) refl gathers (omega (arith, inv .equation)) more here (λ q. noRound)
 
   -- the first reading of all is not
   pub begins : (p : Phase) (gs : List Vertex) (gathered : Simplex) → Gathers (rs ▹ v) gs gathered → s .readings ≡ 0 → s .counts .unfinished ≡ 0
-      → At p (s .setup) (s .standing) (inv .vs) gs (s .readings + 1) (opened 0 (s .counts)) (bestAfter (s .readings) v (s .best)) → NoRound p
-      → Stepped (rs ▹ v) [] 0 s (ongoing p gathered (s .center) (opened 0 (s .counts)))
+      → At p (s .setup) (s .standing) (inv .vs) gs (s .readings + 1) (addOpen 0 (s .counts)) (bestAfter (s .readings) v (s .best)) → NoRound p
+      → TakesReading (rs ▹ v) [] 0 s (ongoing p gathered (s .center) (addOpen 0 (s .counts)))
   unfolding countOf
   begins p gs gathered gathers none closed here noRound =
       let unfinished = s .counts .unfinished in
       let still : unfinished + 0 ≡ cond (isOpen [] 0 (s .readings)) (unfinished + 1) 0 = cond-elim (λ (k : ℕ). unfinished + 0 ≡ k) (isOpen [] 0 (s .readings)) (λ e. absurd (omega (arith, tests))) (λ e. omega arith) in
-      goes 0 p gs gathered (s .center) (opened 0 (s .counts)) (omega arith) refl gathers (omega (arith, inv .equation)) still here (λ q. noRound)
+      goes 0 p gs gathered (s .center) (addOpen 0 (s .counts)) (omega arith) refl gathers (omega (arith, inv .equation)) still here (λ q. noRound)
 
   -- a probe is never open
   pub probes-on : (p : Phase) (gs : List Vertex) (gathered : Simplex) (center : List Float) → Gathers (rs ▹ v) gs gathered → 1 ≤ s .readings → s .counts .unfinished ≡ 0
       → At p (s .setup) (s .standing) (inv .vs) gs (s .readings + 1) (probedOnce (s .counts)) (bestAfter (s .readings) v (s .best))
-      → Stepped (rs ▹ v) [] 1 s (ongoing p gathered center (probedOnce (s .counts)))
+      → TakesReading (rs ▹ v) [] 1 s (ongoing p gathered center (probedOnce (s .counts)))
   unfolding countOf
   probes-on p gs gathered center gathers some closed here =
       goes 1 p gs gathered center (probedOnce (s .counts)) (omega arith) refl gathers (omega (arith, inv .equation)) closed here (λ q. absurd (omega arith))

@@ -8,9 +8,9 @@ use native.Mathlib.Omega.{arith}
 use native.Mathlib.Nat.{not-suc-le-zero, le-of-suc-le-suc, eq-or-lt-of-le}
 use lib.ListN.{length, getD, length-append, length-map, List·getD-append, List·getD-map}
 use lib.Seq.{getD-append-seam}
+use Rattle.rules.specs.Numbers.{maxCost}
 use Rattle.rules.specs.Simplex.{blank, costOf, insert}
 use Rattle.rules.specs.Accept.{replaces, bestAfter}
-use Rattle.rules.specs.Calls.{maxCost}
 use Rattle.rules.specs.History.{EarliestLeast}
 use Rattle.rules.specs.declared.Vertex.{Vertex}
 use Rattle.rules.specs.declared.Setup.{Setup}
@@ -18,7 +18,7 @@ use Rattle.rules.specs.declared.Search.{Search}
 use Rattle.rules.proofs.Laws.Tests.{tests, better-elim}
 use Rattle.rules.proofs.Laws.Lists.{mem-getD}
 use Rattle.rules.proofs.Laws.Order.{le-or-lt, first-lower, first-stays}
-use Rattle.rules.proofs.Steps.Invariant.{Known, Leads, Fine, Best, Noted}
+use Rattle.rules.proofs.Steps.Invariant.{Known, Leads, ReadingShape, Best, Noted}
 
 infixl 40 _▹_
 -- the readings, and a new one after them
@@ -140,14 +140,14 @@ low-after (suc k) v b h g = better-elim (λ (x : Vertex). x .cost ≤ maxCost) (
 pub best-mem : (rs : List Vertex) (b : Vertex) → Best rs b → List·Memᴰ b rs
 best-mem rs b h = Memᴰ·cast (sym (h .2)) (mem-getD rs (h .0) blank (rw (length-map rs costOf) at (h .1 .told)))
 
--- a fine reading is noted, where the budget has room for it
-pub note : (rs : List Vertex) (t : Setup) (k : ℕ) (b v : Vertex) → Noted rs t k b → Fine (t .n) v → k < t .budget → Noted (rs ▹ v) t (k + 1) (bestAfter k v b)
-note rs t k b v h f room =
+-- a reading of the right shape is noted, where the budget is not spent
+pub note : (rs : List Vertex) (t : Setup) (k : ℕ) (b v : Vertex) → Noted rs t k b → ReadingShape (t .n) v → k < t .budget → Noted (rs ▹ v) t (k + 1) (bestAfter k v b)
+note rs t k b v h f below =
     record {
       sane = h .sane;
       told = simp length-append (omega (arith, h .told));
-      room = omega arith;
-      fine = λ w m. ⊎-elim (h .fine w) (λ n. subst (Fine (t .n)) (sym (List·Memᴰ·eq-of-singleton n)) f) (List·Memᴰ·append-cases rs m);
+      below = omega arith;
+      shapes = λ w m. ⊎-elim (h .shapes w) (λ n. subst (ReadingShape (t .n)) (sym (List·Memᴰ·eq-of-singleton n)) f) (List·Memᴰ·append-cases rs m);
       least = λ l. best-after rs v b k (h .told) (h .least);
       low = low-after k v b (f .low) (h .low);
     }

@@ -87,7 +87,7 @@ NoRound (Ended Settled) = ⊥
 NoRound (Ended Budget) = Unit {0}
 
 -- s takes a reading and becomes u: rs are its readings then, ps the pieces finished, probe tells whether it was a probe
-pub record Stepped (rs : List Vertex) (ps : List Piece) (probe : ℕ) (s u : Search) : Type 0 where
+pub record TakesReading (rs : List Vertex) (ps : List Piece) (probe : ℕ) (s u : Search) : Type 0 where
   pub inv : Inv rs u
   pub kept : u .setup ≡ s .setup
   pub counts : Counted ps probe (s .counts) (u .counts)
@@ -97,13 +97,13 @@ pub record Stepped (rs : List Vertex) (ps : List Piece) (probe : ℕ) (s u : Sea
   pub noRound : probe ≡ 0 → NoRound (u .phase)
 
 -- the pieces of a step, by an equation
-pub pieces-are : {rs : List Vertex} {ps qs : List Piece} {probe : ℕ} {s u : Search} → ps ≡ qs → Stepped rs qs probe s u → Stepped rs ps probe s u
+pub pieces-are : {rs : List Vertex} {ps qs : List Piece} {probe : ℕ} {s u : Search} → ps ≡ qs → TakesReading rs qs probe s u → TakesReading rs ps probe s u
 pieces-are e h = rw e h
 
 -- ---- the standing simplex is the list that the invariant names
 
 pub whole : {rs vs : List Vertex} {t : Setup} {k : ℕ} {b : Vertex} → Noted rs t k b → Known vs rs → Whole vs
-whole h g v m = h .fine v (g v m) .eight
+whole h g v m = h .shapes v (g v m) .eight
 
 pub standing-are : (rs vs : List Vertex) (t : Setup) (k : ℕ) (b : Vertex) (builds : ℕ) (standing : Simplex) → Noted rs t k b → Stands rs vs t builds standing
     → cond (eqb builds 0) [] (unpack (t .n + 1) standing) ≡ vs
@@ -131,7 +131,7 @@ module _ (rs : List Vertex) (v : Vertex) (s : Search) (p : Piece) (old new : Lis
       → length vs ≡ s .setup .n + 1 → Ordered vs → Known vs (rs ▹ v) → Leads vs (bestAfter (s .readings) v (s .best))
       → Equation (s .setup .n) (s .readings) (s .counts) → 1 ≤ s .readings → s .counts .unfinished + 1 ≡ readingsIn (s .setup .n) p → 1 ≤ counted p (s .counts) .builds
       → (countOf build (p ∷ []) ≡ 0 → countOf shrink (p ∷ []) ≡ 0 → othersIn (p ∷ []) + total (map costOf vs) ≤ standingCosts s)
-      → Stepped (rs ▹ v) (p ∷ []) 0 s (finished p old new vs (noted v s))
+      → TakesReading (rs ▹ v) (p ∷ []) 0 s (finished p old new vs (noted v s))
   unfolding finished
   finish after many sorted known leads equation some unfinished stood falls =
       let c = counted p (s .counts) in

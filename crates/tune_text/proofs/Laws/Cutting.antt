@@ -8,8 +8,8 @@ use lib.ListN.{length, take, drop, length-drop}
 use lib.Seq.{take-all, take-length, drop-drop}
 use lib.Dec.{eqb}
 use Rattle.bytes.specs.Bytes.{slice, indexOf, indexAfter}
-use Rattle.tune_text.specs.Fields.{cut, onto, Form, isNumber, numberIn}
-use Rattle.tune_text.specs.Handed.{numberOf}
+use Rattle.tune_text.specs.Fields.{cut, onto, Form, isNumber, fieldValue}
+use Rattle.tune_text.specs.Handed.{numberRead}
 
 -- ---- where the first byte b is
 
@@ -80,19 +80,19 @@ module _ (b : ℕ) (xs : List ℕ) (from end : ℕ) (within : from ≤ length xs
 -- ---- what reading a field gives
 
 -- its number, where it has the form
-pub number-well : (f : Form) (xs : List ℕ) → isNumber f xs ≡ true → numberOf f xs ≡ record { well = true; value = numberIn f xs }
-unfolding numberOf
+pub number-well : (f : Form) (xs : List ℕ) → isNumber f xs ≡ true → numberRead f xs ≡ record { well = true; value = fieldValue f xs }
+unfolding numberRead
 number-well f xs e = rw e
 
 -- 0, where it does not
-pub number-ill : (f : Form) (xs : List ℕ) → isNumber f xs ≡ false → numberOf f xs ≡ record { well = false; value = 0 }
-unfolding numberOf
+pub number-ill : (f : Form) (xs : List ℕ) → isNumber f xs ≡ false → numberRead f xs ≡ record { well = false; value = 0 }
+unfolding numberRead
 number-ill f xs e = rw e
 
 -- it says whether the field has the form
-pub number-test : (f : Form) (xs : List ℕ) → numberOf f xs .well ≡ isNumber f xs
+pub number-test : (f : Form) (xs : List ℕ) → numberRead f xs .well ≡ isNumber f xs
 number-test f xs = go (isNumber f xs) refl
   where
-    go : (t : Bool) → isNumber f xs ≡ t → numberOf f xs .well ≡ t
+    go : (t : Bool) → isNumber f xs ≡ t → numberRead f xs .well ≡ t
     go true e = rw (number-well f xs e)
     go false e = rw (number-ill f xs e)

@@ -9,23 +9,23 @@ use lib.ListN.{length, take}
 use lib.Dec.{leb}
 use borrow.Author.Tests.{le-leb}
 use Rattle.tune_text.specs.Reading.{isDone}
-use Rattle.tune_text.specs.Steps.{stepping, after, printed, stepsLeft, Fills}
+use Rattle.tune_text.specs.Steps.{stepping, stateAfter, printed, stepsLeft, Fills}
 use Rattle.tune_text.specs.Handed.{written}
 use Rattle.tune_text.specs.declared.State.{State}
-use Rattle.tune_text.proofs.Laws.Running.{falls, after-more, printed-more}
+use Rattle.tune_text.proofs.Laws.Running.{falls, state-after-more, printed-more}
 
 -- so many steps from s have led to t, and their lines are the first count bytes of the buffer; less is left, or no step was made
 pub record Run (bytes : List ℕ) (s : State) (buffer : List ℕ) (t : State) (count : ℕ) : Type 0 where
   pub steps : ℕ
   pub lines : take count buffer ≡ printed steps bytes s
-  pub state : t ≡ after steps bytes s
+  pub state : t ≡ stateAfter steps bytes s
   pub within : count ≤ length buffer
   pub begun : ((t ≡ s) × (count ≡ 0)) ⊎ (stepsLeft bytes t < stepsLeft bytes s)
 
 module _ (bytes : List ℕ) (s : State) (buffer : List ℕ) where
   -- before the first step
   pub run-none : Run bytes s buffer s 0
-  unfolding after printed
+  unfolding stateAfter printed
   run-none = record { steps = 0; lines = refl; state = refl; within = omega arith; begun = inl (refl, refl) }
 
   module _ (t : State) (count : ℕ) (h : Run bytes s buffer t count) where
@@ -35,7 +35,7 @@ module _ (bytes : List ℕ) (s : State) (buffer : List ℕ) where
     run-more d next k e l = record {
       steps = suc (h .steps);
       lines = rw (printed-more (h .steps) bytes s, ← (h .state), ← (h .lines)) e;
-      state = rw (after-more (h .steps) bytes s, ← (h .state));
+      state = rw (state-after-more (h .steps) bytes s, ← (h .state));
       within = l;
       begun = inr (⊎-elim (λ w. rw (w .0) (falls bytes s (rw (← (w .0)) d))) (λ w. omega (arith, falls bytes t d)) (h .begun));
     }

@@ -5,7 +5,7 @@ use native.Mathlib.Omega.{arith}
 use lib.ListN.{length, drop, getD, length-append}
 use lib.Dec.{ltb, eqb}
 use lib.Ieee.{Float}
-use Rattle.rules.specs.Opening.{numberOf}
+use Rattle.rules.specs.Refusals.{numberOf}
 use Rattle.rules.specs.Calls.{asking, showing}
 use Rattle.rules.specs.declared.Asked.{Asked}
 use Rattle.rules.specs.declared.Search.{Search}
@@ -14,9 +14,9 @@ use Rattle.rules.specs.declared.Verdict.{Verdict}
 use Rattle.rules.specs.declared.Verdict.the-variants.{Accepted, Refused}
 use Rattle.rules.proofs.Laws.Tests.{cond-elim}
 use Rattle.tune_text.specs.Ascii.{bytes}
-use Rattle.tune_text.specs.Fields.{whole, hexadecimal, isLine, values}
+use Rattle.tune_text.specs.Fields.{wholeNumber, hexadecimal, isLine, values}
 use Rattle.tune_text.specs.Lines.{numberedLine, pointAndCost, readingLine, bestLine, endLine, refusedLine, badLine}
-use Rattle.tune_text.specs.Reading.{Turned, openedBy, openingOf, axisLines, furnished, requestOf, axisOf, withAxis, toldBy, answerOf, costTold, lineRead, endingOf, bestBy, searchEnd, lastLine}
+use Rattle.tune_text.specs.Reading.{Turned, turnOpened, openingOf, axisLines, axesRead, requestOf, axisFrom, withAxis, turnTold, answerOf, costTold, lineRead, endingOf, bestBy, searchEnd, lastLine}
 use Rattle.tune_text.specs.Transcript.{stopped}
 use Rattle.tune_text.specs.Steps.{stepping}
 use Rattle.tune_text.specs.declared.Ending.{Ending}
@@ -68,35 +68,35 @@ abbrev Short : Turned → Type 0
 Short t = length (t .line) ≤ 192
 
 -- the line of an opening
-opened-short : (v : Verdict) (q : Request) (s : Search) → Short (openedBy v q s)
-opened-short Accepted q s = omega arith
-opened-short (Refused r) q s = refused-short (numberOf r)
+turn-opened-short : (v : Verdict) (q : Request) (s : Search) → Short (turnOpened v q s)
+turn-opened-short Accepted q s = omega arith
+turn-opened-short (Refused r) q s = refused-short (numberOf r)
 
 -- that of an axis line, or of the first line
-furnished-short : (k : ℕ) (q : Request) (s : Search) → Short (furnished k q s)
-unfolding furnished
-furnished-short k q s =
-    cond-elim Short (ltb k (axisLines (q .n))) (λ e. omega arith) (λ e. opened-short (openingOf q .verdict) q (openingOf q .search))
+axes-read-short : (k : ℕ) (q : Request) (s : Search) → Short (axesRead k q s)
+unfolding axesRead
+axes-read-short k q s =
+    cond-elim Short (ltb k (axisLines (q .n))) (λ e. omega arith) (λ e. turn-opened-short (openingOf q .verdict) q (openingOf q .search))
 
 -- that of a cost
-told-short : (v : Verdict) (p : Progress) (a : Asked) (s : Search) (cost : ℕ) → Short (toldBy v p a s cost)
-told-short Accepted p a s cost = reading-short (a .number) (p .search .setup .n) (a .point) cost
-told-short (Refused r) p a s cost = refused-short (numberOf r)
+turn-told-short : (v : Verdict) (p : Progress) (a : Asked) (s : Search) (cost : ℕ) → Short (turnTold v p a s cost)
+turn-told-short Accepted p a s cost = reading-short (a .number) (p .search .setup .n) (a .point) cost
+turn-told-short (Refused r) p a s cost = refused-short (numberOf r)
 
 cost-short : (p : Progress) (cost : ℕ) → Short (costTold p cost)
 unfolding costTold
-cost-short p cost = told-short (answerOf p cost .verdict) p (asking (p .search)) (answerOf p cost .search) cost
+cost-short p cost = turn-told-short (answerOf p cost .verdict) p (asking (p .search)) (answerOf p cost .search) cost
 
 -- that of any line
 read-short : (stage : Stage) (p : Progress) (i : ℕ) (line : List ℕ) → Short (lineRead stage p i line)
 unfolding lineRead
 read-short Head p i line =
-    cond-elim Short (isLine whole 3 line) (λ e. furnished-short 0 (requestOf (values whole line)) (p .search)) (λ e. bad-short i)
+    cond-elim Short (isLine wholeNumber 3 line) (λ e. axes-read-short 0 (requestOf (values wholeNumber line)) (p .search)) (λ e. bad-short i)
 read-short (Axes k) p i line =
     cond-elim Short (isLine hexadecimal 4 line)
-    (λ e. furnished-short (suc k) (withAxis k (axisOf (values hexadecimal line)) (p .request)) (p .search)) (λ e. bad-short i)
+    (λ e. axes-read-short (suc k) (withAxis k (axisFrom (values hexadecimal line)) (p .request)) (p .search)) (λ e. bad-short i)
 read-short Costs p i line =
-    cond-elim Short (isLine whole 1 line) (λ e. cost-short p (getD (values whole line) 0 0)) (λ e. bad-short i)
+    cond-elim Short (isLine wholeNumber 1 line) (λ e. cost-short p (getD (values wholeNumber line) 0 0)) (λ e. bad-short i)
 read-short Done p i line = omega arith
 
 -- the last line, where a reading was accepted

@@ -14,7 +14,7 @@ use Rattle.tune_text.specs.Fields.{newline}
 use Rattle.tune_text.specs.Lines.{badLine}
 use Rattle.tune_text.specs.Reading.{lineRead, lastLine, isOver, isDone}
 use Rattle.tune_text.specs.Transcript.{longest, stopped}
-use Rattle.tune_text.specs.Steps.{finished, passed, lineStep, stepping, after, printed, stepsLeft}
+use Rattle.tune_text.specs.Steps.{lastStep, passed, lineStep, stepping, stateAfter, printed, stepsLeft}
 use Rattle.tune_text.specs.Handed.{textOf, written}
 use Rattle.tune_text.specs.declared.State.{State}
 use Rattle.tune_text.specs.declared.Stepped.{Stepped}
@@ -24,28 +24,28 @@ abbrev left : List ℕ → State → List ℕ
 left bytes s = drop (s .position) bytes
 
 -- how many bytes of it stand before its first newline
-abbrev next : List ℕ → State → ℕ
-next bytes s = indexOf newline (left bytes s)
+abbrev lineEnd : List ℕ → State → ℕ
+lineEnd bytes s = indexOf newline (left bytes s)
 
 -- what holds in every case of a step holds of it
 pub step-cases : (bytes : List ℕ) (s : State) (P : Stepped → Type 0)
     → (isDone (s .progress .stage) ≡ true → P (record { state = s; text = textOf [] }))
-    → (isDone (s .progress .stage) ≡ false → longest < length bytes → P (finished s (badLine 0)))
+    → (isDone (s .progress .stage) ≡ false → longest < length bytes → P (lastStep s (badLine 0)))
     → (isDone (s .progress .stage) ≡ false → length bytes ≤ longest → isOver (s .progress .stage) (s .progress .search) ≡ true
-    → P (finished s (lastLine (s .progress .stage) (s .progress .search))))
+    → P (lastStep s (lastLine (s .progress .stage) (s .progress .search))))
     → (isDone (s .progress .stage) ≡ false → length bytes ≤ longest → isOver (s .progress .stage) (s .progress .search) ≡ false
-    → next bytes s < length (left bytes s)
-    → P (passed s (next bytes s) (lineRead (s .progress .stage) (s .progress) (s .line) (take (next bytes s) (left bytes s)))))
+    → lineEnd bytes s < length (left bytes s)
+    → P (passed s (lineEnd bytes s) (lineRead (s .progress .stage) (s .progress) (s .line) (take (lineEnd bytes s) (left bytes s)))))
     → (isDone (s .progress .stage) ≡ false → length bytes ≤ longest → isOver (s .progress .stage) (s .progress .search) ≡ false
-    → length (left bytes s) ≤ next bytes s
-    → P (finished s (stopped (s .progress) (s .line) (left bytes s))))
+    → length (left bytes s) ≤ lineEnd bytes s
+    → P (lastStep s (stopped (s .progress) (s .line) (left bytes s))))
     → P (stepping bytes s)
 unfolding stepping lineStep
 step-cases bytes s P done long over line last =
     cond-elim P (isDone (s .progress .stage)) done
     (λ d. cond-elim P (leb (length bytes) longest)
     (λ e. cond-elim P (isOver (s .progress .stage) (s .progress .search)) (over d (leb-true _ _ e))
-    (λ o. cond-elim P (ltb (next bytes s) (length (left bytes s)))
+    (λ o. cond-elim P (ltb (lineEnd bytes s) (length (left bytes s)))
     (λ l. line d (leb-true _ _ e) o (ltb-true _ _ l)) (λ l. last d (leb-true _ _ e) o (ltb-false _ _ l))))
     (λ e. long d (leb-false _ _ e)))
 
@@ -85,8 +85,8 @@ falls bytes s d =
     (λ e l. omega arith)
     (λ e l o. omega arith)
     (λ e l o h.
-    let fewer : next bytes s < length bytes - s .position = rw length-drop at h in
-    let few = few-left bytes (passed s (next bytes s) (lineRead (s .progress .stage) (s .progress) (s .line) (take (next bytes s) (left bytes s))) .state) in
+    let fewer : lineEnd bytes s < length bytes - s .position = rw length-drop at h in
+    let few = few-left bytes (passed s (lineEnd bytes s) (lineRead (s .progress .stage) (s .progress) (s .line) (take (lineEnd bytes s) (left bytes s))) .state) in
     omega arith)
     (λ e l o h. omega arith))
 
@@ -107,20 +107,20 @@ printed-done zero bytes s d = refl
 printed-done (suc k) bytes s d = rw (step-done bytes s d) (printed-done k bytes s d)
 
 -- one more step, at the end
-pub after-more : (k : ℕ) (bytes : List ℕ) (s : State) → after (suc k) bytes s ≡ stepping bytes (after k bytes s) .state
-unfolding after
-after-more zero bytes s = refl
-after-more (suc k) bytes s = after-more k bytes (stepping bytes s .state)
+pub state-after-more : (k : ℕ) (bytes : List ℕ) (s : State) → stateAfter (suc k) bytes s ≡ stepping bytes (stateAfter k bytes s) .state
+unfolding stateAfter
+state-after-more zero bytes s = refl
+state-after-more (suc k) bytes s = state-after-more k bytes (stepping bytes s .state)
 
 -- and its line
 pub printed-more : (k : ℕ) (bytes : List ℕ) (s : State)
-    → printed (suc k) bytes s ≡ printed k bytes s ++ written (stepping bytes (after k bytes s) .text)
-unfolding after printed
+    → printed (suc k) bytes s ≡ printed k bytes s ++ written (stepping bytes (stateAfter k bytes s) .text)
+unfolding stateAfter printed
 printed-more zero bytes s = append-nil _
 printed-more (suc k) bytes s = rw (printed-more k bytes (stepping bytes s .state)) (simp append-assoc)
 
 -- steps and steps after them
-pub printed-join : (i j : ℕ) (bytes : List ℕ) (s : State) → printed (i + j) bytes s ≡ printed i bytes s ++ printed j bytes (after i bytes s)
-unfolding after printed
+pub printed-join : (i j : ℕ) (bytes : List ℕ) (s : State) → printed (i + j) bytes s ≡ printed i bytes s ++ printed j bytes (stateAfter i bytes s)
+unfolding stateAfter printed
 printed-join zero j bytes s = rw zero-add
 printed-join (suc i) j bytes s = rw suc-add (rw (printed-join i j bytes (stepping bytes s .state)) (simp append-assoc))

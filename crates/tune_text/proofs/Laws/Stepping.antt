@@ -9,13 +9,13 @@ use Rattle.bytes.specs.Bytes.{indexOf, slice}
 use Rattle.tune_text.specs.Fields.{newline}
 use Rattle.tune_text.specs.Lines.{badLine}
 use Rattle.tune_text.specs.Reading.{Turned, lineRead, lastLine}
-use Rattle.tune_text.specs.Steps.{lineStep, finished, lineAfter}
+use Rattle.tune_text.specs.Steps.{lineStep, lastStep, lineAfter}
 use Rattle.tune_text.specs.Handed.{textOf}
 use Rattle.tune_text.specs.declared.State.{State}
 use Rattle.tune_text.proofs.Laws.Cutting.{index-from}
 
 -- what is left has no newline, and is not empty: its line is bad
-bad-rest : (s : State) (left : List ℕ) → 0 < length left → length left ≤ indexOf newline left → lineStep s left ≡ finished s (badLine (s .line))
+bad-rest : (s : State) (left : List ℕ) → 0 < length left → length left ≤ indexOf newline left → lineStep s left ≡ lastStep s (badLine (s .line))
 unfolding lineStep
 bad-rest s [] some none = absurd (omega arith)
 bad-rest s (x ∷ xs) some none = rw (le-ltb _ _ none)
@@ -26,7 +26,7 @@ lineTo s bytes end = lineRead (s .progress .stage) (s .progress) (s .line) (take
 
 module _ (s : State) (bytes : List ℕ) where
   -- nothing is left: the last line is printed
-  pub step-at-end : length bytes ≤ s .position → lineStep s (drop (s .position) bytes) ≡ finished s (lastLine (s .progress .stage) (s .progress .search))
+  pub step-at-end : length bytes ≤ s .position → lineStep s (drop (s .position) bytes) ≡ lastStep s (lastLine (s .progress .stage) (s .progress .search))
   unfolding lineStep indexOf
   step-at-end h = rw (drop-of-length-le bytes h)
 
@@ -36,7 +36,7 @@ module _ (s : State) (bytes : List ℕ) where
     index = omega (arith, index-from newline bytes (s .position) end found)
 
     -- a line with no newline is left: it is bad
-    pub step-without-newline : s .position < length bytes → length bytes ≤ end → lineStep s (drop (s .position) bytes) ≡ finished s (badLine (s .line))
+    pub step-without-newline : s .position < length bytes → length bytes ≤ end → lineStep s (drop (s .position) bytes) ≡ lastStep s (badLine (s .line))
     step-without-newline h g =
         bad-rest s (drop (s .position) bytes) (rw (length-drop (s .position) bytes) (omega arith)) (rw (index, length-drop (s .position) bytes) (omega arith))
 

@@ -1,3 +1,5 @@
+-- `tune_text::fill` meets its contract. The invariant of its loop is `Run`: so many steps were made, and the buffer has their
+-- lines. The measure is how many steps are left. Assumes nothing.
 use mathlib.Core.Path.{_≡_, refl, sym, _∙_}
 use mathlib.Core.Bool.{false, and-eq-true-iff}
 use Prim.Native.Nat.{_≤_, _+_}

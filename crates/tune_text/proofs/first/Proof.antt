@@ -1,3 +1,4 @@
+-- `tune_text::first` meets its contract, by that of `nothing_read`. Assumes nothing.
 use mathlib.Core.Path.{refl}
 use borrow.Author.Needs.{needs}
 use Rattle.tune_text.specs.Steps.{firstState}

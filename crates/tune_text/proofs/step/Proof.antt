@@ -1,3 +1,4 @@
+-- `tune_text::step` meets its contract: all is done, the input is too long, the search is over, or `line_step` goes on. Assumes nothing.
 use Prim.Native.Nat.{_<_}
 use lib.ListN.{length}
 use borrow.Author.Tests.{le-leb, lt-leb}
@@ -20,15 +21,15 @@ returns c = rw (← c .before .before .stage-done .ensures, c .before .if1 .take
 bad-requires : tie.Need-bad-requires
 bad-requires c κs = search needs
 
-finish-requires : tie.Need-finish-requires
-finish-requires c κs = search needs
+last-step-requires : tie.Need-last-step-requires
+last-step-requires c κs = search needs
 
 returns-2 : tie.Need-returns-2
 unfolding stepping
 returns-2 c =
     let d = c .before .before .before in
     let long : longest < length (d .before .before .before .before .before .args .input .now) = c .before .before .if2 .taken in
-    rw (← d .before .stage-done .ensures, d .if1 .left, lt-leb _ _ long, c .finish .ensures, c .before .bad .ensures)
+    rw (← d .before .stage-done .ensures, d .if1 .left, lt-leb _ _ long, c .last-step .ensures, c .before .bad .ensures)
 
 is-over-requires : tie.Need-is-over-requires
 is-over-requires c κs = search needs
@@ -36,8 +37,8 @@ is-over-requires c κs = search needs
 last-line-requires : tie.Need-last-line-requires
 last-line-requires c κs = search needs
 
-finish-requires-2 : tie.Need-finish-requires-2
-finish-requires-2 c κs = search needs
+last-step-requires-2 : tie.Need-last-step-requires-2
+last-step-requires-2 c κs = search needs
 
 returns-3 : tie.Need-returns-3
 unfolding stepping
@@ -49,7 +50,7 @@ returns-3 c =
       le-leb _ _ (d .if2 .left),
       ← c .before .before .before .is-over .ensures,
       c .before .before .if3 .taken,
-      c .finish2 .ensures,
+      c .last-step2 .ensures,
       c .before .last-line .ensures,
     )
 
@@ -77,11 +78,11 @@ step-spec =
     no-line-requires
     returns
     bad-requires
-    finish-requires
+    last-step-requires
     returns-2
     is-over-requires
     last-line-requires
-    finish-requires-2
+    last-step-requires-2
     returns-3
     line-step-requires
     returns-4)

@@ -1,3 +1,4 @@
+-- `engine::answer::refused_tell` meets its contract, by computation. Assumes nothing.
 use mathlib.Core.Path.{refl}
 use Rattle.engine.proofs.answer.refused_tell.Statement.{statement}
 use Rattle.engine.proofs.answer.refused_tell.Tie as tie

@@ -1,3 +1,4 @@
+-- `engine::change::changed` meets its contract, by computation. Assumes nothing.
 use mathlib.Core.Path.{refl}
 use Rattle.engine.proofs.change.changed.Statement.{statement}
 use Rattle.engine.proofs.change.changed.Tie as tie

@@ -1,3 +1,4 @@
+-- `engine::change::counted` meets its contract, piece by piece; one more of any count still fits. Assumes nothing.
 use mathlib.Core.Path.{refl}
 use borrow.Author.Needs.{needs}
 use Rattle.engine.proofs.change.counted.Statement.{statement}

@@ -1,4 +1,4 @@
--- `engine::change::finish` meets its contract. Assumes nothing.
+-- `engine::change::finish` meets its contract, by those of the four functions that it calls. Assumes nothing.
 use borrow.Author.Needs.{needs}
 use Rattle.engine.proofs.change.finish.Statement.{statement}
 use Rattle.engine.proofs.change.finish.Tie as tie

@@ -1,3 +1,4 @@
+-- `engine::change::noted` meets its contract: the reading is the first, is lower, or leaves the best. Assumes nothing.
 use borrow.Author.Needs.{needs}
 use Rattle.engine.proofs.Laws.Stepping.{best-first, best-lower, best-stays}
 use Rattle.engine.proofs.change.noted.Statement.{statement}

@@ -1,4 +1,4 @@
--- `engine::decide::contracted_on` meets its contract. Assumes nothing.
+-- `engine::decide::contracted_on` meets its contract, by the outcome of its test on each side. Assumes nothing.
 use mathlib.Core.Path.{_≡_, sym, _∙_}
 use mathlib.Core.Logic.{⊎-elim}
 use borrow.Author.Needs.{needs}

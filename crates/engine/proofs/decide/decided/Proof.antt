@@ -1,4 +1,4 @@
--- `engine::decide::decided` meets its contract. Assumes nothing.
+-- `engine::decide::decided` meets its contract, phase by phase. Assumes nothing.
 use borrow.Author.Needs.{needs}
 use Rattle.engine.proofs.decide.decided.Statement.{statement}
 use Rattle.engine.proofs.decide.decided.Tie as tie

@@ -1,4 +1,4 @@
--- `engine::decide::expanded_on` meets its contract. Assumes nothing.
+-- `engine::decide::expanded_on` meets its contract. Where e is not lower, r is the trial of the phase reflecting. Assumes nothing.
 use borrow.Author.Tests.{lt-ltb, le-ltb}
 use borrow.Author.Needs.{needs}
 use Rattle.engine.proofs.decide.expanded_on.Statement.{statement}

@@ -1,4 +1,4 @@
--- `engine::decide::kept` meets its contract. Assumes nothing.
+-- `engine::decide::kept` meets its contract, phase by phase: only where e is told another vertex may be kept. Assumes nothing.
 use borrow.Author.Needs.{needs}
 use Rattle.engine.proofs.decide.kept.Statement.{statement}
 use Rattle.engine.proofs.decide.kept.Tie as tie

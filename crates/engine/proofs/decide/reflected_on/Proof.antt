@@ -1,4 +1,4 @@
--- `engine::decide::reflected_on` meets its contract. Assumes nothing.
+-- `engine::decide::reflected_on` meets its contract, row by row of the table. Assumes nothing.
 use mathlib.Core.Path.{refl}
 use borrow.Author.Tests.{lt-ltb, le-ltb}
 use borrow.Author.Needs.{needs}

@@ -1,3 +1,4 @@
+-- `engine::float::clamp` meets its contract, by the outcomes of its two tests. Assumes nothing.
 use Rattle.engine.proofs.float.clamp.Statement.{statement}
 use Rattle.engine.proofs.float.clamp.Tie as tie
 

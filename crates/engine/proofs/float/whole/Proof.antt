@@ -1,3 +1,4 @@
+-- `engine::float::whole` meets its contract. A count of at most 8 is within the 2^53 that the cast asks for. Assumes nothing.
 use Prim.Native.Nat.{_^_}
 use native.Mathlib.Omega.{arith}
 use lib.Ieee.{inFloat}

@@ -1,3 +1,4 @@
+-- `engine::insert::copy_from` meets its contract. Each call fills one place more, and one fewer is left to copy. Assumes nothing.
 use mathlib.Core.Path.{_≡_, _∙_}
 use mathlib.Core.List.{append-nil}
 use Prim.Native.Nat.{ℕ, _+_, _-_, _<_}

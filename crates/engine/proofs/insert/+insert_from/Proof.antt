@@ -1,3 +1,4 @@
+-- `engine::insert::insert_from` meets its contract: v passes place i, stops there or is last. Each call leaves one fewer. Assumes nothing.
 use mathlib.Core.Path.{_≡_, _∙_}
 use Prim.Native.Nat.{ℕ, _-_, _<_}
 use native.Mathlib.Omega.{arith}

@@ -1,3 +1,4 @@
+-- `engine::insert::inserted` meets its contract, by that of `insert_from`: at first all places are blank. Assumes nothing.
 use mathlib.Core.Path.{refl}
 use native.Mathlib.Omega.{arith}
 use borrow.Author.Needs.{needs}

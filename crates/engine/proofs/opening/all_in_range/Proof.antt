@@ -1,3 +1,4 @@
+-- `engine::opening::all_in_range` meets its contract. The law `and-found` joins its four tests. Assumes nothing.
 use mathlib.Core.Path.{_≡_, _∙_}
 use mathlib.Core.Bool.{_&&_}
 use borrow.Author.Needs.{needs}

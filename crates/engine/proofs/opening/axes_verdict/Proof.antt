@@ -1,3 +1,4 @@
+-- `engine::opening::axes_verdict` meets its contract. Its loop keeps that the axes left decide the verdict. Assumes nothing.
 use mathlib.Core.Path.{_≡_, sym, _∙_}
 use Prim.Native.Nat.{_-_, _≤_}
 use native.Mathlib.Omega.{arith}

@@ -1,3 +1,4 @@
+-- `engine::opening::axis_verdict` meets its contract. A check that has passed leaves the verdict to the next. Assumes nothing.
 use mathlib.Core.Path.{_≡_, sym, _∙_}
 use mathlib.Core.Bool.{true}
 use borrow.Author.Needs.{needs}

@@ -1,3 +1,4 @@
+-- `engine::opening::fresh` meets its contract, by those of the four functions that it calls. Assumes nothing.
 use mathlib.Core.Path.{_∙_}
 use borrow.Author.Needs.{needs}
 use Rattle.rules.specs.Opening.{fresh}

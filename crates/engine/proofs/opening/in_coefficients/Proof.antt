@@ -1,3 +1,4 @@
+-- `engine::opening::in_coefficients` meets its contract. The law `and-found` joins its nine tests. Assumes nothing.
 use mathlib.Core.Path.{_≡_, refl}
 use mathlib.Core.Bool.{_&&_}
 use Rattle.rules.specs.Binary64.{1ᶠ, _<ᶠ_}

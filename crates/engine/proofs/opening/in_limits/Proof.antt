@@ -1,3 +1,4 @@
+-- `engine::opening::in_limits` meets its contract. The law `and-found` joins its four tests. Assumes nothing.
 use mathlib.Core.Path.{_≡_, refl}
 use mathlib.Core.Bool.{_&&_}
 use Rattle.rules.specs.Binary64.{0ᶠ, _<ᶠ_}

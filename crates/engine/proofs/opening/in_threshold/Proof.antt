@@ -1,3 +1,4 @@
+-- `engine::opening::in_threshold` meets its contract, rule by rule. Assumes nothing.
 use borrow.Author.Needs.{needs}
 use borrow.Author.Tests.{le-leb, lt-leb}
 use Rattle.engine.proofs.opening.in_threshold.Statement.{statement}

@@ -1,3 +1,4 @@
+-- `engine::opening::keep` meets its contract. Its loop keeps `Cleared`: records n up to i are zero records. Assumes nothing.
 use Prim.Native.Nat.{_-_}
 use native.Mathlib.Omega.{arith}
 use borrow.Author.Needs.{needs}

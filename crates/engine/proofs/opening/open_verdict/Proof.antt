@@ -1,3 +1,4 @@
+-- `engine::opening::open_verdict` meets its contract, check by check; `axes-with` joins those of the axes to the rest. Assumes nothing.
 use mathlib.Core.Path.{_≡_, sym, ap, _∙_}
 use mathlib.Core.Bool.{true, _&&_}
 use mathlib.Core.Logic.{⊎-elim}
@@ -6,7 +7,9 @@ use native.Mathlib.Numerals.{add-one}
 use lib.Dec.{leb}
 use borrow.Author.Needs.{needs}
 use borrow.Author.Tests.{ltb-true, ltb-false, le-leb, lt-leb, not-true, not-false}
-use Rattle.rules.specs.Opening.{check, axesChecks, inCoefficients, inThreshold, ruleOf, openVerdict}
+use Rattle.rules.specs.Numbers.{maxBudget}
+use Rattle.rules.specs.Refusals.{check}
+use Rattle.rules.specs.Opening.{axesChecks, inCoefficients, inThreshold, ruleOf, openVerdict}
 use Rattle.rules.specs.declared.Verdict.{Verdict}
 use Rattle.rules.specs.declared.Verdict.the-variants.{Accepted, Refused}
 use Rattle.rules.specs.declared.Refusal.the-variants.{BadBudget}
@@ -83,7 +86,7 @@ returns-4 c =
     rw (passed-1 (axes .before .before .before), passed-4 axes, passed-5 fifth, ← threshold (c .before), not-true (c .before .in-threshold .result) (c .if4 .taken))
 
 -- check 6 has passed
-passed-6 : (c : tie.Else4) → let a = c .before .before .before .before .before .before .before .before .before .before .args in openVerdict (a .n) (a .axes) (a .choice) (a .c) (a .budget) ≡ check (leb (a .n + 1) (a .budget) && leb (a .budget) 1000000) BadBudget Accepted
+passed-6 : (c : tie.Else4) → let a = c .before .before .before .before .before .before .before .before .before .before .args in openVerdict (a .n) (a .axes) (a .choice) (a .c) (a .budget) ≡ check (leb (a .n + 1) (a .budget) && leb (a .budget) maxBudget) BadBudget Accepted
 unfolding openVerdict
 passed-6 c =
     let fifth = c .before .before .before in

@@ -1,3 +1,4 @@
+-- `engine::opening::starts` meets its contract. Its loop keeps that out has the starts of the first i records. Assumes nothing.
 use mathlib.Core.Path.{_≡_, refl, _∙_}
 use mathlib.Core.List.{List, map, append-nil}
 use Prim.Native.Nat.{ℕ, _+_, _-_, _≤_}

@@ -1,3 +1,4 @@
+-- `engine::opening::unread` meets its contract, by those of `blank` and `no_counts`. Assumes nothing.
 use borrow.Author.Needs.{needs}
 use Rattle.engine.proofs.opening.unread.Statement.{statement}
 use Rattle.engine.proofs.opening.unread.Tie as tie

@@ -1,3 +1,4 @@
+-- `engine::place::blank` meets its contract, by computation: nine blank places are all zeros. Assumes nothing.
 use mathlib.Core.Path.{refl}
 use Rattle.rules.specs.Simplex.{store, flat}
 use Rattle.engine.proofs.place.blank.Statement.{statement}

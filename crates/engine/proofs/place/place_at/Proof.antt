@@ -1,3 +1,4 @@
+-- `engine::place::place_at` meets its contract, by that of `point_at`. Assumes nothing.
 use borrow.Author.Needs.{needs}
 use Rattle.engine.proofs.place.place_at.Statement.{statement}
 use Rattle.engine.proofs.place.place_at.Tie as tie

@@ -1,3 +1,4 @@
+-- `engine::place::point_at` meets its contract. Its loop keeps that out has the first j numbers of place i. Assumes nothing.
 use mathlib.Core.Path.{_≡_, refl}
 use mathlib.Core.List.{append-nil}
 use Prim.Native.Nat.{ℕ, _+_, _-_, _*_, _≤_, _<_}

@@ -1,3 +1,4 @@
+-- `engine::place::put` meets its contract. Its loop keeps that the point's first j numbers stand from 8 * i on. Assumes nothing.
 use mathlib.Core.Path.{_≡_, refl}
 use Prim.Native.Nat.{_-_, _*_, _≤_, _<_}
 use native.Mathlib.Numerals.{add-one}

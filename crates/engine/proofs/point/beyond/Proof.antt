@@ -1,3 +1,4 @@
+-- `engine::point::beyond` meets its contract, by those of `clamp` and `moved`. Assumes nothing.
 use borrow.Author.Needs.{needs}
 use Rattle.engine.proofs.point.beyond.Statement.{statement}
 use Rattle.engine.proofs.point.beyond.Tie as tie

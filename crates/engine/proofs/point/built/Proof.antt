@@ -1,3 +1,4 @@
+-- `engine::point::built` meets its contract, by its three ways: a step forward, a step back, or none. Assumes nothing.
 use borrow.Author.Needs.{needs}
 use Rattle.engine.proofs.point.built.Statement.{statement}
 use Rattle.engine.proofs.point.built.Tie as tie

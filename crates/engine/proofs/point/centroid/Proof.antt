@@ -1,3 +1,4 @@
+-- `engine::point::centroid` meets its contract. Its loop keeps that the sum is that of places 1 to i + 1. Assumes nothing.
 use mathlib.Core.Path.{_≡_}
 use Prim.Native.Nat.{_+_, _-_, _≤_}
 use native.Mathlib.Numerals.{add-one}

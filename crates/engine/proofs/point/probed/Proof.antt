@@ -1,3 +1,4 @@
+-- `engine::point::probed` meets its contract, by its three ways: forward, back, or another axis. Assumes nothing.
 use borrow.Author.Tests.{eq-eqb, ne-eqb}
 use borrow.Author.Needs.{needs}
 use Rattle.engine.proofs.point.probed.Statement.{statement}

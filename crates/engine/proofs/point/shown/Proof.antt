@@ -1,3 +1,4 @@
+-- `engine::point::shown` meets its contract. Its loop keeps `Cleared`: coordinates n up to a are 0. Assumes nothing.
 use Prim.Native.Nat.{_-_}
 use native.Mathlib.Omega.{arith}
 use borrow.Author.Needs.{needs}

@@ -1,9 +1,11 @@
+-- `engine::sound::all_costs` meets its contract. Its loop keeps that no cost before place i is above the largest. Assumes nothing.
 use mathlib.Core.Path.{sym}
 use Prim.Native.Nat.{ℕ, _-_, _≤_, _<_}
 use native.Mathlib.Omega.{arith}
 use lib.ListN.{getD}
 use borrow.Author.Needs.{needs}
-use Rattle.rules.specs.Calls.{allCosts, maxCost}
+use Rattle.rules.specs.Numbers.{maxCost}
+use Rattle.rules.specs.Calls.{allCosts}
 use Rattle.engine.proofs.Laws.Sounding.{refuted, below-more, all-capped, capped-all}
 use Rattle.engine.proofs.sound.all_costs.Statement.{statement}
 use Rattle.engine.proofs.sound.all_costs.Tie as tie

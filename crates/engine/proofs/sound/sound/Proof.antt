@@ -5,16 +5,17 @@ use native.Mathlib.Omega.{arith}
 use lib.Dec.{leb, ltb}
 use borrow.Author.Tests.{leb-true, le-leb, lt-leb}
 use borrow.Author.Needs.{needs}
+use Rattle.rules.specs.Numbers.{maxBudget}
 use Rattle.rules.specs.Calls.{soundCounts, soundRule, soundPhase}
 use Rattle.engine.specs.declared.sound.Held.{Held}
 use Rattle.engine.proofs.Laws.Joining.{and-found}
-use Rattle.engine.proofs.Laws.Sounding.{phase-fits, gathered-few}
+use Rattle.engine.proofs.Laws.Sounding.{phase-fits, gathered-most}
 use Rattle.engine.proofs.sound.sound.Statement.{statement}
 use Rattle.engine.proofs.sound.sound.Tie as tie
 
 -- the tests before that of the phase
 abbrev bounds : Held → Bool
-bounds h = leb 1 (h .n) && leb (h .n) 8 && ltb (h .readings) (h .budget) && soundCounts (h .budget) (h .counts) && leb (h .budget) 1000000 && soundRule (h .rule)
+bounds h = leb 1 (h .n) && leb (h .n) 8 && ltb (h .readings) (h .budget) && soundCounts (h .budget) (h .counts) && leb (h .budget) maxBudget && soundRule (h .rule)
 
 -- their outcome
 six : (c : tie.Joined5) → c .if5 .if6 ≡ bounds (c .before .before .before .before .before .before .before .args .h)
@@ -43,7 +44,7 @@ sound-held-requires c κs =
     let h = c .before .before .before .before .before .before .before .before .before .args .h in
     let k = simp and-eq-true-iff at (sym (seven (c .before)) ∙ c .if7 .taken) in
     let n = leb-true (h .n) 8 (k .0 .0 .0 .0 .0 .1) in
-    (n, omega (arith, n, gathered-few (h .n) (h .phase) (phase-fits (h .n) (h .counts .builds) (h .phase) (k .1))))
+    (n, omega (arith, n, gathered-most (h .n) (h .phase) (phase-fits (h .n) (h .counts .builds) (h .phase) (k .1))))
 
 returns : tie.Need-returns
 returns c = rw (← seven (c .before .before), c .before .if7 .taken) (c .sound-held .ensures)

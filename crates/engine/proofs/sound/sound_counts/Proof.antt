@@ -1,3 +1,4 @@
+-- `engine::sound::sound_counts` meets its contract. The law `and-found` joins its seven tests. Assumes nothing.
 use mathlib.Core.Path.{_≡_, refl}
 use mathlib.Core.Bool.{_&&_}
 use lib.Dec.{leb}

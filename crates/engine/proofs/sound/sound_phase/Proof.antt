@@ -1,3 +1,4 @@
+-- `engine::sound::sound_phase` meets its contract, phase by phase. Assumes nothing.
 use borrow.Author.Tests.{le-leb, lt-leb, eq-eqb, ne-eqb}
 use borrow.Author.Needs.{needs}
 use Rattle.engine.proofs.sound.sound_phase.Statement.{statement}

@@ -1,3 +1,4 @@
+-- `engine::sound::sound_rule` meets its contract, rule by rule. Assumes nothing.
 use borrow.Author.Needs.{needs}
 use Rattle.engine.proofs.sound.sound_rule.Statement.{statement}
 use Rattle.engine.proofs.sound.sound_rule.Tie as tie

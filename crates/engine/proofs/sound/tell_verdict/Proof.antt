@@ -1,4 +1,4 @@
--- `engine::sound::tell_verdict` meets its contract. The test by the parts of the search is that of the rules; a sound search leaves room for one more reading. Assumes nothing.
+-- `engine::sound::tell_verdict` meets its contract. The test by the parts of the search is that of the rules; a sound search has readings left. Assumes nothing.
 use mathlib.Core.Path.{_≡_, sym, ap, _∙_}
 use mathlib.Core.Bool.{true, false}
 use native.Mathlib.Omega.{arith}
@@ -6,7 +6,7 @@ use borrow.Author.Tests.{le-leb, lt-leb, eq-eqb, ne-eqb, not-true, not-false}
 use borrow.Author.Needs.{needs}
 use Rattle.rules.specs.Calls.{isEnded, sound, tellVerdict}
 use Rattle.engine.specs.HeldBy.{soundBy}
-use Rattle.engine.proofs.Laws.Sounding.{sound-by, room}
+use Rattle.engine.proofs.Laws.Sounding.{sound-by, below}
 use Rattle.engine.proofs.sound.tell_verdict.Statement.{statement}
 use Rattle.engine.proofs.sound.tell_verdict.Tie as tie
 
@@ -40,7 +40,7 @@ unfolding tellVerdict
 returns-2 c = rw (unended (c .before .before .before), sym (tested (c .before)) ∙ not-true _ (c .if2 .taken))
 
 add-if3 : tie.Need-add-if3
-add-if3 c = omega (arith, room (c .before .before .before .before .before .before .args .s) (good (c .before)))
+add-if3 c = omega (arith, below (c .before .before .before .before .before .before .args .s) (good (c .before)))
 
 returns-3 : tie.Need-returns-3
 unfolding tellVerdict

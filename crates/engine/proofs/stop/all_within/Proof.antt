@@ -1,3 +1,4 @@
+-- `engine::stop::all_within` meets its contract. Its loop keeps that the places from i on decide the whole test. Assumes nothing.
 use borrow.Author.Needs.{needs}
 use mathlib.Core.Path.{_≡_, refl, sym, _∙_}
 use mathlib.Core.List.{List}

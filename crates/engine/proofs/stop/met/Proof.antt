@@ -1,3 +1,4 @@
+-- `engine::stop::met` meets its contract, rule by rule, and for moved piece by piece. Assumes nothing.
 use borrow.Author.Needs.{needs}
 use borrow.Author.Tests.{leb-true}
 use native.Mathlib.Omega.{arith}

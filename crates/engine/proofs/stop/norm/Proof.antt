@@ -1,3 +1,4 @@
+-- `engine::stop::norm` meets its contract. Its loop keeps that the sum is that over the first a axes. Assumes nothing.
 use mathlib.Core.Path.{_≡_, refl}
 use Prim.Native.Nat.{_-_, _≤_}
 use native.Mathlib.Numerals.{add-one}

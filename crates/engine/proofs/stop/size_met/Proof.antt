@@ -1,3 +1,4 @@
+-- `engine::stop::size_met` meets its contract, by the law `size-at`; the two ways differ in the limit. Assumes nothing.
 use borrow.Author.Needs.{needs}
 use Rattle.engine.proofs.Laws.Stopping.{size-at}
 use Rattle.engine.proofs.stop.size_met.Statement.{statement}

@@ -1,11 +1,12 @@
+-- `engine::stop::spread_met` meets its contract. Costs and threshold in range keep every product within 64 bits. Assumes nothing.
 use borrow.Author.Needs.{needs}
 use mathlib.Core.Path.{_≡_}
 use Prim.Native.Nat.{_+_, _*_, _≤_}
 use native.Mathlib.Nat.{mul-le-mul}
 use native.Mathlib.Omega.{arith}
 use lib.ListN.{length}
+use Rattle.rules.specs.Numbers.{maxCost}
 use Rattle.rules.specs.Stop.{square, spreadMet}
-use Rattle.rules.specs.Calls.{maxCost}
 use Rattle.rules.proofs.Laws.Places.{costs-unpack}
 use Rattle.engine.proofs.Laws.Stopping.{plain-capped, squares-capped}
 use Rattle.engine.proofs.stop.spread_met.Statement.{statement}

@@ -1,3 +1,4 @@
+-- `engine::stop::sums_of` meets its contract. Its loop keeps that the sums are those of the first i costs, all in range. Assumes nothing.
 use mathlib.Core.Path.{_≡_, refl, sym}
 use mathlib.Core.List.{map, map-id}
 use Prim.Native.Nat.{ℕ, _-_, _≤_, _<_}

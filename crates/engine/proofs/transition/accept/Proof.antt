@@ -1,3 +1,4 @@
+-- `engine::transition::accept` meets its contract. A search stays ready once the reading is noted. Assumes nothing.
 use borrow.Author.Needs.{needs}
 use Rattle.rules.specs.Accept.{accept}
 use Rattle.rules.specs.Trial.{trial}

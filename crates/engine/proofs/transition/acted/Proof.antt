@@ -1,4 +1,4 @@
--- `engine::transition::acted` meets its contract. Assumes nothing.
+-- `engine::transition::acted` meets its contract, decision by decision. Assumes nothing.
 use native.Mathlib.Omega.{arith}
 use borrow.Author.Needs.{needs}
 use Rattle.engine.proofs.transition.acted.Statement.{statement}

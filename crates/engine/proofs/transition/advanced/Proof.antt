@@ -1,4 +1,4 @@
--- `engine::transition::advanced` meets its contract. Assumes nothing.
+-- `engine::transition::advanced` meets its contract. What is decided and then done is what the rules do in one step. Assumes nothing.
 use borrow.Author.Needs.{needs}
 use Rattle.engine.proofs.Laws.Deciding.{decision-allowed, kept-low, acted-decided}
 use Rattle.engine.proofs.transition.advanced.Statement.{statement}

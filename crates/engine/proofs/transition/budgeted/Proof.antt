@@ -1,4 +1,4 @@
--- `engine::transition::budgeted` meets its contract. Assumes nothing.
+-- `engine::transition::budgeted` meets its contract, by those of `spent` and `with_phase`. Assumes nothing.
 use borrow.Author.Needs.{needs}
 use Rattle.engine.proofs.transition.budgeted.Statement.{statement}
 use Rattle.engine.proofs.transition.budgeted.Tie as tie

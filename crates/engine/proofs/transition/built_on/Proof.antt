@@ -1,4 +1,4 @@
--- `engine::transition::built_on` meets its contract. Assumes nothing.
+-- `engine::transition::built_on` meets its contract. Trial n finishes the build; one before it is gathered. Assumes nothing.
 use mathlib.Core.List.{[]}
 use mathlib.Core.Path.{_≡_, refl}
 use lib.ListN.{length}
@@ -33,7 +33,7 @@ add-t14 : tie.Need-add-t14
 add-t14 c = search needs
 
 gathering-requires : tie.Need-gathering-requires
-gathering-requires c κs = (c .before .before .before .before .before .before .before .pre .0 .few, rw (c .first-open .ensures) (open-small (c .before .before .before .before .before .before .before .args .s .counts .builds) (c .before .before .before .before .before .before .before .args .i)))
+gathering-requires c κs = (c .before .before .before .before .before .before .before .pre .0 .counts, rw (c .first-open .ensures) (open-small (c .before .before .before .before .before .before .before .args .s .counts .builds) (c .before .before .before .before .before .before .before .args .i)))
 
 returns : tie.Need-returns
 unfolding builtOn movement

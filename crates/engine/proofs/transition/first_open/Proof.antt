@@ -1,3 +1,4 @@
+-- `engine::transition::first_open` meets its contract: the very first reading adds 0, every other of a build 1. Assumes nothing.
 use mathlib.Core.Logic.{inl, inr, ⊎-elim}
 use mathlib.Core.Path.{sym}
 use borrow.Author.Tests.{eqb-true, eqb-false}

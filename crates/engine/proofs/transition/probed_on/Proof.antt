@@ -1,3 +1,4 @@
+-- `engine::transition::probed_on` meets its contract: the probe is lower, the last of its round, or neither. Assumes nothing.
 use borrow.Author.Tests.{eq-eqb, ne-eqb, lt-ltb, le-ltb}
 use borrow.Author.Needs.{needs}
 use Rattle.rules.specs.Accept.{probedOn}

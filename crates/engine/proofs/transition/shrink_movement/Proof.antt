@@ -1,3 +1,4 @@
+-- `engine::transition::shrink_movement` meets its contract. Its loop keeps that the sum is how far places 2 to k + 1 move. Assumes nothing.
 use mathlib.Core.List.{List}
 use mathlib.Core.Path.{_≡_, refl, sym, _∙_}
 use Prim.Native.Nat.{ℕ, suc, _-_, _≤_}

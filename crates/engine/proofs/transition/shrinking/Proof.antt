@@ -1,3 +1,4 @@
+-- `engine::transition::shrinking` meets its contract. The vertex at place 1, put among none, is alone. Assumes nothing.
 use borrow.Author.Needs.{needs}
 use Rattle.rules.specs.Simplex.{upTo, unpack, insert}
 use Rattle.engine.proofs.transition.shrinking.Statement.{statement}

@@ -1,4 +1,4 @@
--- `engine::transition::shrunk_on` meets its contract. Assumes nothing.
+-- `engine::transition::shrunk_on` meets its contract. The movement is summed place by place, and trial n finishes the shrink. Assumes nothing.
 use mathlib.Core.List.{map}
 use mathlib.Core.Path.{_≡_}
 use Prim.Native.Nat.{_+_}

@@ -1,4 +1,4 @@
--- `engine::transition::spent` meets its contract. Assumes nothing.
+-- `engine::transition::spent` meets its contract, by the outcome of its test and, where the budget is spent, by the phase. Assumes nothing.
 use mathlib.Core.Path.{_≡_, sym, _∙_}
 use borrow.Author.Tests.{eq-eqb, ne-eqb}
 use borrow.Author.Needs.{needs}

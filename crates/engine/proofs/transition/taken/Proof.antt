@@ -1,4 +1,4 @@
--- `engine::transition::taken` meets its contract. Assumes nothing.
+-- `engine::transition::taken` meets its contract. The replaced point is the worst one, and the newcomer goes among the n others. Assumes nothing.
 use mathlib.Core.List.{[], _∷_}
 use mathlib.Core.Path.{_≡_, refl}
 use lib.ListN.{length}

@@ -1,3 +1,4 @@
+-- `examples::list::calls` meets its contract. Its loop keeps that t is the search after the first i calls. Assumes nothing.
 use mathlib.Core.Path.{_≡_, refl, sym, _∙_}
 use Prim.Native.Nat.{ℕ, _-_, _≤_}
 use native.Mathlib.Omega.{arith}
@@ -5,7 +6,7 @@ use lib.ListN.{length, getD}
 use borrow.Author.Needs.{needs}
 use Rattle.rules.specs.History.{Call, after}
 use Rattle.rules.specs.Simplex.{upTo}
-use Rattle.examples.proofs.Playing.{calls-more}
+use Rattle.examples.proofs.Calls.{calls-more}
 use Rattle.examples.specs.List.{callOf}
 use Rattle.examples.proofs.list.calls.Statement.{statement}
 use Rattle.examples.proofs.list.calls.Tie as tie

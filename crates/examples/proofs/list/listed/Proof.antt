@@ -1,3 +1,4 @@
+-- `examples::list::listed` meets its contract. The claim of the rules holds of its search, by the calls' promises. Assumes nothing.
 use mathlib.Core.Path.{_≡_, sym, ap, _∙_}
 use borrow.Author.Needs.{needs}
 use Rattle.rules.specs.declared.Opened.{Opened}

@@ -1,5 +1,6 @@
+-- `examples::list::one` meets its contract, by the kind of call and the engine's promise for each. Assumes nothing.
 use borrow.Author.Needs.{needs}
-use Rattle.examples.proofs.Playing.{call-best}
+use Rattle.examples.proofs.Calls.{call-best}
 use Rattle.examples.proofs.list.one.Statement.{statement}
 use Rattle.examples.proofs.list.one.Tie as tie
 

@@ -1,3 +1,4 @@
+-- `examples::show::coordinates` meets its contract: it ends. The measure of its loop is how many places are left. Assumes nothing.
 use Prim.Native.Nat.{_≤_, _-_}
 use native.Mathlib.Omega.{arith}
 use borrow.Author.Needs.{needs}

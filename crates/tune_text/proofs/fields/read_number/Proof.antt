@@ -12,7 +12,8 @@ use lib.Dec.{ltb, leb}
 use lib.ListN.{length, drop, getD, drop-of-length-le}
 use lib.Seq.{drop-cons}
 use borrow.Author.Tests.{ltb-true, ltb-false, lt-ltb, le-ltb, le-leb, lt-leb}
-use Rattle.tune_text.specs.Fields.{digitOf, allDigits, value as reading, Form, form, isNumber}
+use Rattle.numerals.specs.Digits.{digitOf}
+use Rattle.tune_text.specs.Fields.{allDigits, value as reading, Form, form, isNumber}
 use Rattle.tune_text.proofs.Laws.Cutting.{number-well, number-ill}
 use Rattle.tune_text.proofs.fields.read_number.Statement.{statement}
 use Rattle.tune_text.proofs.fields.read_number.Tie as tie

@@ -14,10 +14,10 @@ use lib.Seq.{take-suc-set, drop-set-lt, drop-drop, append-snoc}
 use borrow.Author.Tests.{eqb-true, eqb-false, eq-eqb, ne-eqb, not-true, not-false}
 use Rattle.bytes.specs.Bytes.{indexOf, slice}
 use Rattle.rules.proofs.Laws.Order.{le-or-lt}
-use Rattle.tune_text.specs.Handed.{numberOf, numbersOf}
+use Rattle.tune_text.specs.Handed.{numberRead, numbersRead}
 use Rattle.tune_text.specs.declared.Number.{Number}
 use Rattle.tune_text.specs.declared.Numbers.{Numbers}
-use Rattle.tune_text.specs.Fields.{space, cut, Form, form, isNumber, allNumbers, isLine, numberIn}
+use Rattle.tune_text.specs.Fields.{space, cut, Form, form, isNumber, allNumbers, isLine, fieldValue}
 use Rattle.tune_text.proofs.Laws.Cutting.{cut-next, cut-end, cut-some, number-test, number-well}
 use Rattle.tune_text.proofs.fields.read_numbers.Statement.{statement}
 use Rattle.tune_text.proofs.fields.read_numbers.Tie as tie
@@ -32,13 +32,13 @@ bad = record { well = false; values = replicate 4 0 }
 outcome : Form → ℕ → ℕ → List ℕ → List (List ℕ) → Numbers
 outcome f k i front ps =
     cond (eqb (i + length ps) k && allNumbers f ps)
-    (record { well = true; values = front ++ map (numberIn f) ps ++ replicate (4 - k) 0 })
+    (record { well = true; values = front ++ map (fieldValue f) ps ++ replicate (4 - k) 0 })
     bad
 
 module _ (f : Form) (k : ℕ) where
   -- all fields are left at first
-  outcome-first : (line : List ℕ) → numbersOf f k line ≡ outcome f k 0 [] (cut space line)
-  unfolding numbersOf isLine outcome
+  outcome-first : (line : List ℕ) → numbersRead f k line ≡ outcome f k 0 [] (cut space line)
+  unfolding numbersRead isLine outcome
   outcome-first line = rw zero-add
 
   module _ (i : ℕ) (front : List ℕ) where
@@ -54,7 +54,7 @@ module _ (f : Form) (k : ℕ) where
 
     -- one field more is read
     outcome-more : (p : List ℕ) (ps : List (List ℕ)) → isNumber f p ≡ true
-        → outcome f k i front (p ∷ ps) ≡ outcome f k (i + 1) (front ++ (numberIn f p ∷ [])) ps
+        → outcome f k i front (p ∷ ps) ≡ outcome f k (i + 1) (front ++ (fieldValue f p ∷ [])) ps
     unfolding outcome allNumbers
     outcome-more p ps e =
         let n : i + suc (length ps) ≡ i + 1 + length ps = omega arith in
@@ -72,8 +72,8 @@ module _ (f : Form) (k : ℕ) where
 -- i fields are read and gave the first i of the numbers vs, and the next field begins at from
 record Going (f : Form) (k : ℕ) (line vs : List ℕ) (from i : ℕ) : Type 0 where
   within : i < k → from ≤ length line
-  gives : i < k → numbersOf f k line ≡ outcome f k i (take i vs) (cut space (drop from line))
-  ends : k ≤ i → numbersOf f k line ≡ record { well = true; values = vs }
+  gives : i < k → numbersRead f k line ≡ outcome f k i (take i vs) (cut space (drop from line))
+  ends : k ≤ i → numbersRead f k line ≡ record { well = true; values = vs }
   four : length vs ≡ 4
   zeros : drop i vs ≡ replicate (4 - i) 0
 
@@ -114,15 +114,15 @@ module _ (f : Form) (k : ℕ) (line vs : List ℕ) (from i end : ℕ) (n : Numbe
     more : i < k
     found : end ≡ from + indexOf space (slice from (length line) line)
     inside : end ≤ length line
-    got : n ≡ numberOf f (take (end - from) (drop from line))
+    got : n ≡ numberRead f (take (end - from) (drop from line))
 
   module _ (t : Turn) where
     -- other fields are left after it
-    gives-next : end < length line → numbersOf f k line ≡ outcome f k i (take i vs) (take (end - from) (drop from line) ∷ cut space (drop (end + 1) line))
+    gives-next : end < length line → numbersRead f k line ≡ outcome f k i (take i vs) (take (end - from) (drop from line) ∷ cut space (drop (end + 1) line))
     gives-next h = t .going .gives (t .more) ∙ ap (outcome f k i (take i vs)) (cut-next space line from end (t .going .within (t .more)) (t .found) h)
 
     -- no field is left after it
-    gives-last : length line ≤ end → numbersOf f k line ≡ outcome f k i (take i vs) (take (end - from) (drop from line) ∷ [])
+    gives-last : length line ≤ end → numbersRead f k line ≡ outcome f k i (take i vs) (take (end - from) (drop from line) ∷ [])
     gives-last h = t .going .gives (t .more) ∙ ap (outcome f k i (take i vs)) (cut-end space line from end (t .going .within (t .more)) (t .found) h)
 
     -- n says whether it has the form
@@ -130,7 +130,7 @@ module _ (f : Form) (k : ℕ) (line vs : List ℕ) (from i end : ℕ) (n : Numbe
     test = sym (number-test f (take (end - from) (drop from line))) ∙ ap (λ (m : Number). m .well) (sym (t .got))
 
     -- it has another form
-    refuses-form : n .well ≡ false → numbersOf f k line ≡ bad
+    refuses-form : n .well ≡ false → numbersRead f k line ≡ bad
     refuses-form e =
         let p = take (end - from) (drop from line) in
         ⊎-elim
@@ -139,7 +139,7 @@ module _ (f : Form) (k : ℕ) (line vs : List ℕ) (from i end : ℕ) (n : Numbe
         (le-or-lt (length line) end)
 
     -- it is field k and others are left, or it is none such and no other is left
-    refuses-count : not (Bool·beq (eqb (i + 1) k) (eqb end (length line))) ≡ true → numbersOf f k line ≡ bad
+    refuses-count : not (Bool·beq (eqb (i + 1) k) (eqb end (length line))) ≡ true → numbersRead f k line ≡ bad
     refuses-count e =
         let p = take (end - from) (drop from line) in
         let ps = cut space (drop (end + 1) line) in
@@ -160,10 +160,10 @@ module _ (f : Form) (k : ℕ) (line vs : List ℕ) (from i end : ℕ) (n : Numbe
         let p = take (end - from) (drop from line) in
         let us = set vs i (n .value) in
         let is : isNumber f p ≡ true = test ∙ e in
-        let v : n .value ≡ numberIn f p = ap (λ (m : Number). m .value) (t .got ∙ number-well f p is) in
+        let v : n .value ≡ fieldValue f p = ap (λ (m : Number). m .value) (t .got ∙ number-well f p is) in
         let same : eqb end (length line) ≡ eqb (i + 1) k = sym (agree (eqb (i + 1) k) (eqb end (length line)) d) in
         let i<4 : i < 4 = omega (arith, t .more) in
-        let front : take i vs ++ (numberIn f p ∷ []) ≡ take (i + 1) us = rw v (sym (take-more vs i (numberIn f p) (t .going .four) i<4)) in
+        let front : take i vs ++ (fieldValue f p ∷ []) ≡ take (i + 1) us = rw v (sym (take-more vs i (fieldValue f p) (t .going .four) i<4)) in
         let zeros : drop (i + 1) us ≡ replicate (4 - (i + 1)) 0 = zeros-more vs i (n .value) (t .going .four) i<4 (t .going .zeros) in
         let before : i + 1 < k → end < length line = λ h. omega (arith, t .inside, eqb-false end (length line) (same ∙ ne-eqb (i + 1) k (omega arith))) in
         record {
@@ -173,7 +173,7 @@ module _ (f : Form) (k : ℕ) (line vs : List ℕ) (from i end : ℕ) (n : Numbe
               let last : i + 1 ≡ k = omega (arith, t .more) in
               let l : length line ≤ end = omega (arith, eqb-true end (length line) (same ∙ eq-eqb (i + 1) k last)) in
               let whole : take (i + 1) us ++ replicate (4 - k) 0 ≡ us = rw (← last, ← zeros) (take-append-drop (i + 1) us) in
-              gives-last l ∙ outcome-more f k i (take i vs) p [] is ∙ outcome-none f k (i + 1) (take i vs ++ (numberIn f p ∷ [])) last ∙ rw (front, whole);
+              gives-last l ∙ outcome-more f k i (take i vs) p [] is ∙ outcome-none f k (i + 1) (take i vs ++ (fieldValue f p ∷ [])) last ∙ rw (front, whole);
           four = length-set vs i (n .value) ∙ t .going .four;
           zeros = zeros;
         }

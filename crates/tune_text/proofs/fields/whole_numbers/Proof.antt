@@ -1,3 +1,4 @@
+-- `tune_text::fields::whole_numbers` meets its contract, by that of `read_numbers`. Assumes nothing.
 use borrow.Author.Needs.{needs}
 use Rattle.tune_text.proofs.fields.whole_numbers.Statement.{statement}
 use Rattle.tune_text.proofs.fields.whole_numbers.Tie as tie

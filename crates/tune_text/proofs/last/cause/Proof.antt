@@ -1,3 +1,4 @@
+-- `tune_text::last::cause` meets its contract, phase by phase. Assumes nothing.
 use borrow.Author.Needs.{needs}
 use Rattle.tune_text.proofs.last.cause.Statement.{statement}
 use Rattle.tune_text.proofs.last.cause.Tie as tie

@@ -1,3 +1,4 @@
+-- `tune_text::last::is_ended` meets its contract, phase by phase. Assumes nothing.
 use mathlib.Core.Path.{refl}
 use borrow.Author.Needs.{needs}
 use Rattle.tune_text.proofs.last.is_ended.Statement.{statement}

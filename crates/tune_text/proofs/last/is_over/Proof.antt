@@ -1,3 +1,4 @@
+-- `tune_text::last::is_over` meets its contract, stage by stage; for the costs by that of `is_ended`. Assumes nothing.
 use borrow.Author.Needs.{needs}
 use Rattle.tune_text.proofs.last.is_over.Statement.{statement}
 use Rattle.tune_text.proofs.last.is_over.Tie as tie

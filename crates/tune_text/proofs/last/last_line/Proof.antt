@@ -1,3 +1,4 @@
+-- `tune_text::last::last_line` meets its contract, stage by stage. Assumes nothing.
 use borrow.Author.Needs.{needs}
 use Rattle.tune_text.specs.Reading.{lastLine}
 use Rattle.tune_text.proofs.last.last_line.Statement.{statement}

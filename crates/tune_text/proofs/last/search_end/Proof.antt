@@ -1,3 +1,4 @@
+-- `tune_text::last::search_end` meets its contract: nothing was read, the best is shown, or best is refused. Assumes nothing.
 use mathlib.Core.Path.{_≡_}
 use borrow.Author.Tests.{eq-eqb, ne-eqb}
 use borrow.Author.Needs.{needs}

@@ -1,3 +1,4 @@
+-- `tune_text::last::stage_done` meets its contract, stage by stage. Assumes nothing.
 use mathlib.Core.Path.{refl}
 use borrow.Author.Needs.{needs}
 use Rattle.tune_text.proofs.last.stage_done.Statement.{statement}

@@ -1,3 +1,4 @@
+-- `tune_text::lines::best` meets its contract. At most 11 bytes of `end` and cause leave room for the rest. Assumes nothing.
 use native.Mathlib.Omega.{arith}
 use borrow.Author.Needs.{needs}
 use Rattle.tune_text.specs.Lines.{endAnd, pointAndCost}

@@ -1,3 +1,4 @@
+-- `tune_text::lines::end` meets its contract. At most 11 bytes of `end` and cause leave room for the newline. Assumes nothing.
 use mathlib.Core.List.{[], _∷_}
 use native.Mathlib.Omega.{arith}
 use borrow.Author.Needs.{needs}

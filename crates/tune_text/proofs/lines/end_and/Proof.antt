@@ -1,3 +1,4 @@
+-- `tune_text::lines::end_and` meets its contract, ending by ending; an empty line has room for each. Assumes nothing.
 use mathlib.Core.List.{[]}
 use native.Mathlib.Omega.{arith}
 use borrow.Author.Needs.{needs}

@@ -1,3 +1,4 @@
+-- `tune_text::lines::numbered` meets its contract. At most 8 bytes of the word leave room for the rest. Assumes nothing.
 use mathlib.Core.List.{[], _∷_, _++_}
 use native.Mathlib.Omega.{arith}
 use borrow.Author.Needs.{needs}

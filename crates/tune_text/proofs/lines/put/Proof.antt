@@ -1,3 +1,4 @@
+-- `tune_text::lines::put` meets its contract, by `put-known`: the bytes go over the zeros after the line's own. Assumes nothing.
 use native.Mathlib.Omega.{arith}
 use borrow.Author.Needs.{needs}
 use Rattle.tune_text.proofs.Laws.Writing.{length-bytes, put-known}

@@ -1,3 +1,4 @@
+-- `tune_text::lines::put_coordinate` meets its contract. The digits are sixteen, and those of the bits. Assumes nothing.
 use mathlib.Core.Path.{_≡_, ap, _∙_}
 use mathlib.Core.List.{[], _∷_}
 use Prim.Native.Nat.{ℕ, _≤_}

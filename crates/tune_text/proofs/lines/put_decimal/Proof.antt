@@ -1,3 +1,4 @@
+-- `tune_text::lines::put_decimal` meets its contract. Twenty digits hold every u64; the fewest are its decimal. Assumes nothing.
 use Prim.Native.Nat.{_≤_}
 use native.Mathlib.Omega.{arith}
 use borrow.Author.Needs.{needs}

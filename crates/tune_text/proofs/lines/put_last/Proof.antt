@@ -1,3 +1,4 @@
+-- `tune_text::lines::put_last` meets its contract. At most 20 bytes of the number leave room for the newline. Assumes nothing.
 use mathlib.Core.List.{[], _∷_}
 use native.Mathlib.Omega.{arith}
 use borrow.Author.Needs.{needs}

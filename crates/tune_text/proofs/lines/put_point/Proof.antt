@@ -1,3 +1,4 @@
+-- `tune_text::lines::put_point` meets its contract. Its loop keeps that the first a coordinates are added. Assumes nothing.
 use mathlib.Core.Path.{_≡_}
 use mathlib.Core.List.{_++_, append-nil}
 use mathlib.Core.Logic.{⊎-elim}
@@ -6,7 +7,7 @@ use native.Mathlib.Numerals.{add-one}
 use native.Mathlib.Omega.{arith}
 use lib.ListN.{getD}
 use lib.Ieee.{nan}
-use Rattle.tune_text.specs.Lines.{coordinate, coordinates}
+use Rattle.tune_text.specs.Lines.{spacedBits, coordinates}
 use Rattle.tune_text.specs.Handed.{textOf, written}
 use Rattle.tune_text.proofs.Laws.Decimals.{coordinates-length}
 use Rattle.tune_text.proofs.Laws.Writing.{room-more, then-more}
@@ -59,7 +60,7 @@ loop-again c = (
       (coordinates (c .before .before .loop .a) (c .before .before .before .before .args .t3))
       (c .before .before .loop .inv .0)
       (c .put-coordinate .result)
-      (coordinate (getD (c .before .before .before .before .args .t3) (c .before .before .loop .a) nan))
+      (spacedBits (getD (c .before .before .before .before .args .t3) (c .before .before .loop .a) nan))
       (c .put-coordinate .ensures)),
   omega arith,
   c .before .before .loop .inv .2,

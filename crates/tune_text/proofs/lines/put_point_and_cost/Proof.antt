@@ -1,3 +1,4 @@
+-- `tune_text::lines::put_point_and_cost` meets its contract. At most eight coordinates leave room for the rest. Assumes nothing.
 use mathlib.Core.List.{List, [], _∷_, _++_}
 use Prim.Native.Nat.{ℕ, min}
 use native.Mathlib.Omega.{arith}

@@ -1,3 +1,4 @@
+-- `tune_text::lines::reading` meets its contract. At most 20 bytes of the number leave room for the rest. Assumes nothing.
 use mathlib.Core.List.{[]}
 use native.Mathlib.Omega.{arith}
 use borrow.Author.Needs.{needs}

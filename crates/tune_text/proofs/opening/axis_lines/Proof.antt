@@ -1,3 +1,4 @@
+-- `tune_text::opening::axis_lines` meets its contract, by the outcomes of its two tests. Assumes nothing.
 use mathlib.Core.Logic.{⊎-elim}
 use borrow.Author.Tests.{le-leb, lt-leb}
 use Rattle.tune_text.proofs.opening.axis_lines.Statement.{statement}

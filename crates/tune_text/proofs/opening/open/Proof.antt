@@ -1,9 +1,7 @@
+-- `tune_text::opening::open` meets its contract, by the engine's promise for open_search. Assumes nothing.
 use borrow.Author.Needs.{needs}
 use Rattle.tune_text.proofs.opening.open.Statement.{statement}
 use Rattle.tune_text.proofs.opening.open.Tie as tie
-
-usual-requires : tie.Need-usual-requires
-usual-requires c κs = search needs
 
 open-search-requires : tie.Need-open-search-requires
 open-search-requires c κs = search needs
@@ -27,19 +25,18 @@ returns : tie.Need-returns
 returns c =
     let arm = c .before in
     let call = arm .before .before .before in
-    rw (c .no-line .ensures, ← call .before .usual .ensures, ← call .open-search .ensures, arm .enum-told .given .1)
+    rw (c .no-line .ensures, ← call .open-search .ensures, arm .enum-told .given .1)
 
 returns-2 : tie.Need-returns-2
 returns-2 c =
     let arm = c .before .before .before in
     let call = arm .before .before .before in
-    rw (c .refused .ensures, c .before .refusal-number .ensures, ← call .before .usual .ensures, ← call .open-search .ensures, arm .verdict .given .1)
+    rw (c .refused .ensures, c .before .refusal-number .ensures, ← call .open-search .ensures, arm .verdict .given .1)
 
 pub open-spec : {M : Type 1} → statement M
 open-spec =
     tie.close
     (tie.spec
-    usual-requires
     open-search-requires
     enum-told
     no-line-requires

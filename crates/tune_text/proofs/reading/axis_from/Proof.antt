@@ -1,3 +1,4 @@
+-- `tune_text::reading::axis_from` meets its contract, by that of `float_of` for each number. Assumes nothing.
 use borrow.Author.Needs.{needs}
 use Rattle.tune_text.proofs.reading.axis_from.Statement.{statement}
 use Rattle.tune_text.proofs.reading.axis_from.Tie as tie

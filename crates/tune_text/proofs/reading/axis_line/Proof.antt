@@ -1,3 +1,4 @@
+-- `tune_text::reading::axis_line` meets its contract. Past eight axis lines one more changes nothing. Assumes nothing.
 use mathlib.Core.Path.{_≡_}
 use native.Mathlib.Numerals.{add-one}
 use lib.ListN.{length, length-map}
@@ -27,14 +28,14 @@ axis-from-requires c κs = search needs
 with-axis-requires : tie.Need-with-axis-requires
 with-axis-requires c κs = search needs
 
-add-furnish : tie.Need-add-furnish
-add-furnish c = search needs
+add-axes-read : tie.Need-add-axes-read
+add-axes-read c = search needs
 
-furnish-requires : tie.Need-furnish-requires
-furnish-requires c κs = search needs
+axes-read-requires : tie.Need-axes-read-requires
+axes-read-requires c κs = search needs
 
-furnish-requires-2 : tie.Need-furnish-requires-2
-furnish-requires-2 c κs = search needs
+axes-read-requires-2 : tie.Need-axes-read-requires-2
+axes-read-requires-2 c κs = search needs
 
 returns-2 : tie.Need-returns-2
 unfolding lineRead
@@ -44,7 +45,7 @@ returns-2 c =
     let a = call .before .before .args in
     let h = is-line hexadecimal 4 (a .line .now) (call .four-floats .ensures) (not-false _ (arm .if1 .left)) in
     let v = number-read hexadecimal 4 (a .line .now) (call .four-floats .ensures) h in
-    rw (h, ← v 0, ← v 1, ← v 2, ← v 3, ← c .before .before .axis-from .ensures, ← c .before .with-axis .ensures, ← add-one (a .k)) (c .furnish .ensures)
+    rw (h, ← v 0, ← v 1, ← v 2, ← v 3, ← c .before .before .axis-from .ensures, ← c .before .with-axis .ensures, ← add-one (a .k)) (c .axes-read .ensures)
 
 -- a ninth axis line, which no step reads: the request keeps its eight axis records
 returns-3 : tie.Need-returns-3
@@ -56,7 +57,7 @@ returns-3 c =
     let a = start .args in
     let h = is-line hexadecimal 4 (a .line .now) (call .four-floats .ensures) (not-false _ (arm .if1 .left)) in
     let eight : length (a .progress .request .axes) ≡ 8 = simp length-map at (start .good .1 .0 .1 .1 .1 .0 .1 .1 .1 .1 .1 .0 .1 .0 .1) in
-    rw (h, past-eight _ _ (a .progress .request) _ (c .before .if2 .left) eight) (c .furnish2 .ensures)
+    rw (h, past-eight _ _ (a .progress .request) _ (c .before .if2 .left) eight) (c .axes-read2 .ensures)
 
 pub axis-line-spec : {M : Type 1} → statement M
 axis-line-spec =
@@ -67,8 +68,8 @@ axis-line-spec =
     returns
     axis-from-requires
     with-axis-requires
-    add-furnish
-    furnish-requires
-    furnish-requires-2
+    add-axes-read
+    axes-read-requires
+    axes-read-requires-2
     returns-2
     returns-3)

@@ -1,3 +1,4 @@
+-- `tune_text::reading::read_line` meets its contract, stage by stage. Assumes nothing.
 use borrow.Author.Needs.{needs}
 use Rattle.tune_text.specs.Reading.{lineRead}
 use Rattle.tune_text.proofs.reading.read_line.Statement.{statement}

@@ -1,3 +1,4 @@
+-- `tune_text::reading::tell` meets its contract, by the engine's promises for ask and tell. Assumes nothing.
 use borrow.Author.Needs.{needs}
 use Rattle.tune_text.specs.Reading.{costTold}
 use Rattle.tune_text.proofs.reading.tell.Statement.{statement}
@@ -24,8 +25,8 @@ refusal-number-requires c κs = search needs
 refused-requires : tie.Need-refused-requires
 refused-requires c κs = search needs
 
-end-with-requires : tie.Need-end-with-requires
-end-with-requires c κs = search needs
+last-turn-requires : tie.Need-last-turn-requires
+last-turn-requires c κs = search needs
 
 returns : tie.Need-returns
 unfolding costTold
@@ -41,7 +42,7 @@ returns-2 c =
     let arm = number .before .before in
     let call = arm .before .before in
     rw (← call .before .ask .ensures, ← call .tell .ensures, arm .verdict .given .1, ← number .refusal-number .ensures, ← c .before .refused .ensures)
-    (c .end-with .ensures)
+    (c .last-turn .ensures)
 
 pub tell-spec : {M : Type 1} → statement M
 tell-spec =
@@ -54,6 +55,6 @@ tell-spec =
     enum-known-verdict
     refusal-number-requires
     refused-requires
-    end-with-requires
+    last-turn-requires
     returns
     returns-2)

@@ -1,3 +1,4 @@
+-- `tune_text::steps::collect` meets its contract. The copy keeps the first count bytes and puts the line after them. Assumes nothing.
 use mathlib.Core.Path.{_≡_, refl, sym}
 use mathlib.Core.List.{List, _++_, append-assoc}
 use Prim.Native.Nat.{ℕ, _+_}

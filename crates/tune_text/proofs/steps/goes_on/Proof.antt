@@ -1,3 +1,4 @@
+-- `tune_text::steps::goes_on` meets its contract. Its first two tests say whether count + 192 is within size. Assumes nothing.
 use Prim.Native.Nat.{_+_}
 use native.Mathlib.Omega.{arith}
 use borrow.Author.Tests.{le-leb, lt-leb}

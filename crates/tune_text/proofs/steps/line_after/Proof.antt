@@ -1,3 +1,4 @@
+-- `tune_text::steps::line_after` meets its contract, by the outcome of its test. Assumes nothing.
 use mathlib.Core.Path.{refl}
 use borrow.Author.Tests.{le-leb, lt-leb}
 use borrow.Author.Needs.{needs}

@@ -1,3 +1,4 @@
+-- `tune_text::steps::line_step` meets its contract: nothing is left, a line with no newline, or a whole line. Assumes nothing.
 use borrow.Author.Needs.{needs}
 use Rattle.tune_text.proofs.Laws.Stepping.{step-at-end, step-without-newline, step-on-line}
 use Rattle.tune_text.proofs.steps.line_step.Statement.{statement}
@@ -6,13 +7,13 @@ use Rattle.tune_text.proofs.steps.line_step.Tie as tie
 last-line-requires : tie.Need-last-line-requires
 last-line-requires c κs = search needs
 
-finish-requires : tie.Need-finish-requires
-finish-requires c κs = search needs
+last-step-requires : tie.Need-last-step-requires
+last-step-requires c κs = search needs
 
 returns : tie.Need-returns
 returns c =
     let a = c .before .before .before .before .before .before .args in
-    rw (c .finish .ensures, c .before .last-line .ensures, step-at-end (a .state) (a .input .now) (c .before .before .before .if1 .taken))
+    rw (c .last-step .ensures, c .before .last-line .ensures, step-at-end (a .state) (a .input .now) (c .before .before .before .if1 .taken))
 
 find-requires : tie.Need-find-requires
 find-requires c κs = search needs
@@ -20,15 +21,15 @@ find-requires c κs = search needs
 bad-requires : tie.Need-bad-requires
 bad-requires c κs = search needs
 
-finish-requires-2 : tie.Need-finish-requires-2
-finish-requires-2 c κs = search needs
+last-step-requires-2 : tie.Need-last-step-requires-2
+last-step-requires-2 c κs = search needs
 
 returns-2 : tie.Need-returns-2
 returns-2 c =
     let a = c .before .before .before .before .before .before .before .args in
     let d = c .before .before .before in
     let bad = step-without-newline (a .state) (a .input .now) (d .find .result) (d .find .ensures .0) (d .before .if1 .left) (c .before .before .if2 .taken) in
-    rw (c .finish2 .ensures, c .before .bad .ensures, bad)
+    rw (c .last-step2 .ensures, c .before .bad .ensures, bad)
 
 sub-read-line : tie.Need-sub-read-line
 sub-read-line c = search needs
@@ -60,11 +61,11 @@ line-step-spec =
     tie.close
     (tie.spec
     last-line-requires
-    finish-requires
+    last-step-requires
     returns
     find-requires
     bad-requires
-    finish-requires-2
+    last-step-requires-2
     returns-2
     sub-read-line
     part-read-line-start
