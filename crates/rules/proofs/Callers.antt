@@ -40,7 +40,7 @@ abbrev numberIn : Verdict → ℕ
 numberIn Accepted = 0
 numberIn (Refused r) = numberOf r
 
--- not refused as 12
+-- a verdict that is not refusal 12
 abbrev pub Not12 : Verdict → Type 0
 Not12 v = v ≡ Refused Damaged → ⊥
 
@@ -81,7 +81,7 @@ module _ (s : Search) (h : undamaged s ≡ true) where
   unfolding showing bestVerdict
   best-none e = rw (h, eq-eqb (s .readings) 0 e)
 
-  -- no call is refused as 12
+  -- no call on a search that is not damaged is refused as 12
   first-passes : (v : Verdict) → Not12 v → Not12 (check (undamaged s) Damaged v)
   first-passes v g = check-elim Not12 (undamaged s) (λ e. g) (λ e. absurd (true≢false (sym h ∙ e)))
 
@@ -108,13 +108,13 @@ joins-number o h k c e = simp and-eq-true-iff at e .0 .1
 
 -- ---- one call more at the end of a list
 
--- of the search
+-- the search after a list of calls and one call more is what that call makes of the search after the list
 pub after-snoc : (s : Search) (cs : List Call) (c : Call) → after s (cs ++ c ∷ []) ≡ after1 (after s cs) c
 unfolding after
 after-snoc s [] c = refl
 after-snoc s (d ∷ cs) c = after-snoc (after1 s d) cs c
 
--- of the history
+-- the history after a list of calls and one call more is what that call makes of the history after the list
 history-snoc : (o : Search) (h : List ℕ) (cs : List Call) (c : Call) → historyFrom o h (cs ++ c ∷ []) ≡ history1 o (historyFrom o h cs) c
 unfolding historyFrom
 history-snoc o h [] c = refl
@@ -130,7 +130,7 @@ module _ (n : ℕ) (axes : List Axis) (rule : RuleChoice) (coefficients : Coeffi
   setup-given : openedSearch .setup ≡ fresh n axes rule coefficients budget .setup
   setup-given = ap (λ s. s .setup) (opened-fresh n axes rule coefficients budget accepted)
 
-  -- what the calls have made of it, and their history
+  -- what the calls have made of the opened search, and their history
   abbrev pub reached : List Call → Search
   reached cs = after openedSearch cs
 
@@ -200,7 +200,7 @@ module _ (n : ℕ) (axes : List Axis) (rule : RuleChoice) (coefficients : Coeffi
       let late : k ≡ length (accepted-costs more) + 1 → ⊥ = λ q. omega (arith, rw (costs, length-append h (c ∷ [])) at q) in
       rw (after-snoc openedSearch cs (tell k c)) at (camera-wrong more k d late)
 
-  -- so is a cost above the largest
+  -- where the search has not ended, the next number with a cost above the largest is refused as 9, and the search stays
   pub camera-high : (cs : List Call) (k c : ℕ) → isEnded (reached cs .phase) ≡ false → k ≡ length (accepted-costs cs) + 1 → maxCost < c
       → telling (reached cs) k c ≡ record { verdict = Refused CostTooHigh; search = reached cs }
   camera-high cs k c live e high = tell-high (reached cs) (sound-always cs) k c live (e ∙ ap (λ (m : ℕ). m + 1) (sym (claims cs .readings))) high
@@ -225,7 +225,7 @@ module _ (n : ℕ) (axes : List Axis) (rule : RuleChoice) (coefficients : Coeffi
       let given : openedSearch .setup .n ≡ n = ap (λ (t : Setup). t .n) setup-given in
       rw given at (claims cs .equation (omega (arith, claims cs .readings)))
 
-  -- and there are never more readings than the budget
+  -- there are never more readings than the budget
   pub schedule-budget : (cs : List Call) → reached cs .readings ≤ budget
   unfolding fresh
   schedule-budget cs =

@@ -52,7 +52,7 @@ Kept p = p .stage ≡ Costs → Carried p
 done-kept : (q : Request) (s : Search) → Kept (record { stage = Done; request = q; search = s })
 done-kept q s e = let z : _≡_ {A = ℕ} 0 1 = cc in absurd (omega arith)
 
--- nor where an axis line follows
+-- no costs are read where an axis line follows
 axes-kept : (k : ℕ) (q : Request) (s : Search) → Kept (record { stage = Axes k; request = q; search = s })
 axes-kept k q s e = let z : _≡_ {A = ℕ} 0 1 = cc in absurd (omega arith)
 
@@ -65,7 +65,7 @@ opening-turn-kept q = go (openingOf q .verdict) refl
     go Accepted e c = record { accepted = e; calls = []; made = refl }
     go (Refused r) e c = done-kept q (openingOf q .search) c
 
--- the line before: the next axis line follows, or the opening
+-- `Kept` holds after k axis lines, where the next axis line follows or the opening
 axes-read-kept : (k : ℕ) (q : Request) (s : Search) → Kept (axesRead k q s .progress)
 unfolding axesRead
 axes-read-kept k q s =
@@ -88,7 +88,7 @@ told-kept p cost c = go (answerOf p cost .verdict)
         }
     go (Refused r) e = done-kept (p .request) (p .search) e
 
--- a line, by the stage
+-- `Kept` holds after a line where it held before, by the stage
 line-kept : (stage : Stage) (p : Progress) (i : ℕ) (line : List ℕ) → p .stage ≡ stage → Kept p → Kept (lineRead stage p i line .progress)
 unfolding lineRead
 line-kept Head p i line e h =
@@ -102,14 +102,14 @@ line-kept Costs p i line e h =
     (λ w. told-kept p (getD (values wholeNumber line) 0 0) (h e)) (λ w. done-kept (p .request) (p .search))
 line-kept Done p i line e h = h
 
--- a step
+-- `Kept` holds after a step where it held before
 step-kept : (bytes : List ℕ) (s : State) → Kept (s .progress) → Kept (stepping bytes s .state .progress)
 step-kept bytes s h =
     let last = done-kept (s .progress .request) (s .progress .search) in
     step-cases bytes s (λ (r : Stepped). Kept (r .state .progress))
     (λ d. h) (λ d l. last) (λ d l o. last) (λ d l o e. line-kept (s .progress .stage) (s .progress) (s .line) _ refl h) (λ d l o e. last)
 
--- a run of steps
+-- `Kept` holds after a run of steps where it held before
 run-kept : (k : ℕ) (bytes : List ℕ) (s : State) → Kept (s .progress) → Kept (stateAfter k bytes s .progress)
 unfolding stateAfter
 run-kept zero bytes s h = h
@@ -122,7 +122,7 @@ carried bytes k = run-kept k bytes firstState (λ e. let z : _≡_ {A = ℕ} 0 1
 
 -- ---- the search
 
--- the answer to the number that ask gives
+-- on a search neither damaged nor ended, a tell with the number that ask gives is refused only for a cost above the largest
 tell-next : (s : Search) → undamaged s ≡ true → isEnded (s .phase) ≡ false → (cost : ℕ)
     → telling s (asking s .number) cost .verdict ≡ check (leb cost maxCost) CostTooHigh Accepted
 unfolding asking askVerdict telling tellVerdict
@@ -142,7 +142,7 @@ module _ (p : Progress) (c : Carried p) where
   claimed =
       rw (c .made) (claim (p .request .n) (p .request .axes) (Named (Spread (p .request .spread))) usual (p .request .budget) (c .accepted) (c .calls))
 
-  -- it is not damaged
+  -- the search that is carried is not damaged
   sound : undamaged (p .search) ≡ true
   sound =
       rw (c .made)
@@ -176,15 +176,15 @@ module _ (p : Progress) (c : Carried p) where
 abbrev pub OfOpening : Refusal → Type 0
 OfOpening r = (1 ≤ numberOf r) × (numberOf r ≤ 7) × (numberOf r ≡ 5 → ⊥)
 
--- the same of a verdict, where it is a refusal
+-- where a verdict is a refusal, its number is from 1 to 7 and not 5
 abbrev AtOpening : Verdict → Type 0
 AtOpening v = (r : Refusal) → v ≡ Refused r → OfOpening r
 
--- a check whose refusal is so, before checks whose refusals are
+-- a check whose refusal is `OfOpening`, before checks whose verdict is `AtOpening`, gives a verdict that is `AtOpening`
 check-so : (b : Bool) (r : Refusal) {v : Verdict} → OfOpening r → AtOpening v → AtOpening (check b r v)
 check-so b r o h = check-elim AtOpening b (λ e. h) (λ e x q. let d : r ≡ x = cc in rw (← d) o)
 
--- the checks of k axes, before such
+-- the checks of k axes, before checks whose verdict is `AtOpening`, give a verdict that is `AtOpening`
 axes-so : (k i : ℕ) (xs : List Axis) (v : Verdict) → AtOpening v → AtOpening (axesChecks k i xs v)
 unfolding axesChecks
 axes-so zero i xs v h = h
@@ -209,6 +209,6 @@ opening-refusals q =
     let axes = axes-so (q .n) 0 (q .axes) _ coefficients in
     rw openedBy-verdict (check-so (leb 1 (q .n) && leb (q .n) 8) AxisCount (omega arith, omega arith, λ e. omega arith) axes)
 
--- so no coefficient is ever refused
+-- the opening that the lines ask for is never refused as 5, for a coefficient
 pub no-coefficient : (q : Request) (r : Refusal) → openingOf q .verdict ≡ Refused r → numberOf r ≡ 5 → ⊥
 no-coefficient q r e = opening-refusals q r e .2

@@ -46,7 +46,7 @@ from-done p i [] d = refl
 from-done p i (x ∷ []) d = rw d
 from-done p i (x ∷ (y ∷ ys)) d = rw d
 
--- the last line of a search that has ended
+-- once a search has ended, its last line alone is printed
 from-over : (p : Progress) (i : ℕ) (lines : List (List ℕ)) → 0 < length lines → isDone (p .stage) ≡ false → isOver (p .stage) (p .search) ≡ true
     → linesFrom p i lines ≡ lastLine (p .stage) (p .search)
 unfolding linesFrom
@@ -54,14 +54,14 @@ from-over p i [] h d o = absurd (omega arith)
 from-over p i (x ∷ []) h d o = rw (d, o)
 from-over p i (x ∷ (y ∷ ys)) h d o = rw (d, o)
 
--- a whole line, and what follows
+-- a whole line prints the line of its turn, and what follows prints after it
 from-line : (p : Progress) (i : ℕ) (line : List ℕ) (rest : List (List ℕ)) → 0 < length rest → isDone (p .stage) ≡ false → isOver (p .stage) (p .search) ≡ false
     → linesFrom p i (line ∷ rest) ≡ lineRead (p .stage) p i line .line ++ linesFrom (lineRead (p .stage) p i line .progress) (suc i) rest
 unfolding linesFrom
 from-line p i line [] h d o = absurd (omega arith)
 from-line p i line (y ∷ ys) h d o = rw (d, o)
 
--- what stands after the last newline
+-- what stands after the last newline prints its `stopped` line
 from-last : (p : Progress) (i : ℕ) (line : List ℕ) → isDone (p .stage) ≡ false → isOver (p .stage) (p .search) ≡ false
     → linesFrom p i (line ∷ []) ≡ stopped p i line
 unfolding linesFrom
@@ -83,7 +83,7 @@ left-after n j bytes =
     let e : n + suc j ≡ n + j + 1 = omega arith in
     rw (drop-drop, e)
 
--- the steps that are left print the lines from this line on
+-- the steps that are left print the lines from the state's line on
 rest : (k : ℕ) (bytes : List ℕ) (s : State) → length bytes ≤ longest → s .line ≤ s .position + 1 → stepsLeft bytes s ≤ k
     → printed k bytes s ≡ linesFrom (s .progress) (s .line) (cut newline (drop (s .position) bytes))
 unfolding printed
@@ -127,7 +127,7 @@ whole bytes (suc k) h =
     (λ e. rest (suc k) bytes firstState (leb-true (length bytes) longest e) (omega arith) (omega arith))
     (λ e. long k bytes firstState refl (leb-false (length bytes) longest e))
 
--- the same of any run of steps after which all is done, however many they are and however they are taken together
+-- the lines of any run of steps after which all is done, put together, are the transcript of the input, however many steps they are
 pub whole-at-end :
     (bytes : List ℕ) (k : ℕ) → isDone (stateAfter k bytes firstState .progress .stage) ≡ true → printed k bytes firstState ≡ transcript bytes
 whole-at-end bytes k d =

@@ -22,7 +22,7 @@ either-allowed : (n : ℕ) (t : Bool) (x y : Decision) → Allowed n x → Allow
 either-allowed n true x y h k = h
 either-allowed n false x y h k = k
 
--- so may what a reading of cost f decides
+-- what a reading of cost f decides may be done, where the phase fits
 pub decision-allowed : (n : ℕ) (p : Phase) (f : ℕ) (s : Search) → Fits n p → Allowed n (decisionIn p f s)
 decision-allowed n (Building i) f s h = h
 decision-allowed n Reflecting f s h =
@@ -37,12 +37,12 @@ decision-allowed n (Ended cause) f s h = tt
 
 -- ---- the vertex kept
 
--- of two vertices with costs in range, either has
+-- of two vertices with costs in range, the one that a test picks has a cost in range
 better-low : (t : Bool) (v w : Vertex) → v .cost ≤ maxCost → w .cost ≤ maxCost → better t v w .cost ≤ maxCost
 better-low true v w h k = h
 better-low false v w h k = k
 
--- so has the vertex that a reading brings
+-- the vertex that a reading with a cost in range brings has a cost in range
 pub kept-low : (n : ℕ) (p : Phase) (v : Vertex) (s : Search) → Fits n p → v .cost ≤ maxCost → keptIn p v s .cost ≤ maxCost
 kept-low n (Building i) v s h k = k
 kept-low n Reflecting v s h k = k
@@ -52,14 +52,14 @@ kept-low n (Shrinking j) v s h k = k
 kept-low n (Probing p) v s h k = k
 kept-low n (Ended cause) v s h k = k
 
--- ---- what is done then
+-- ---- what is done after a decision
 
 -- a decision of two is done as the search of two is picked
 acted-either : (b : ℕ) (v : Vertex) (s : Search) (t : Bool) (x y : Decision) → actedOn (either t x y) b v s ≡ pick t (actedOn x b v s) (actedOn y b v s)
 acted-either b v s true x y = refl
 acted-either b v s false x y = refl
 
--- the two steps make what the rules say of the reading v
+-- the decision on the reading v and what is done after it make what the rules say of v
 pub acted-decided : (p : Phase) (b : ℕ) (v : Vertex) (s : Search) → actedOn (decisionIn p (v .cost) s) b (keptIn p v s) s ≡ advanced p b v s
 unfolding advanced reflectedOn expandedOn contractedOn
 acted-decided (Building i) b v s = refl

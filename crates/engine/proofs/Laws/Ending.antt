@@ -21,11 +21,11 @@ use Rattle.engine.proofs.Laws.Stopping.{met-by}
 
 -- w holds the first m vertices of g with the newcomer v among them
 module _ (g w : Simplex) (m : ℕ) (v : Vertex) (e : w ≡ pack (insert v (unpack m g))) where
-  -- its costs are in range
+  -- the costs of w are in range where those of g and v are
   pub capped-with : v .cost ≤ maxCost → Capped (g .costs) → Capped (w .costs)
   capped-with h k = rw e (capped-inserted g m v h k)
 
-  -- the piece that it ends is finished, t being how far the replaced points moved
+  -- the piece that the newcomer v ends is finished as the rules say, t being how far the replaced points moved
   pub finished-with : (p : own.Piece) (s : Search) (t : Float) (old new : List (List Float)) → m ≡ s .setup .n → s .setup .n ≤ 8
       → length (g .points) ≡ 72 → length (v .point) ≡ 8 → t ≡ movement (s .setup .n) old new 0ᶠ
       → finishedBy p t w s ≡ finished (pieceOf p) old new (insert v (unpack m g)) s

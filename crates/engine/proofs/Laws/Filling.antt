@@ -37,7 +37,7 @@ pub record Cleared {A : Type 0} (n : ℕ) (z : A) (xs : List A) (i : ℕ) (out :
   pub value : out ≡ take n xs ++ replicate (i - n) z ++ drop i xs
 
 module _ {A : Type 0} (n : ℕ) (z : A) (xs : List A) where
-  -- none is overwritten yet
+  -- no record past the first n is overwritten yet
   pub cleared-none : Cleared n z xs n xs
   cleared-none =
       let none : n - n ≡ 0 = omega arith in

@@ -43,13 +43,13 @@ refuted false h = refl
 pub below-more : (P : ℕ → Type 0) (i : ℕ) → ((k : ℕ) → k < i → P k) → P i → (k : ℕ) → k < i + 1 → P k
 below-more P i h p k l = ⊎-elim (λ e. rw e p) (h k) (eq-or-lt-of-le (le-of-suc-le-suc (rw add-one at l)))
 
--- costs in range at each place pass the test
+-- costs that are in range at each place pass the test for the costs
 pub all-capped : (cs : List ℕ) → ((k : ℕ) → k < length cs → getD cs k 0 ≤ maxCost) → allCosts cs ≡ true
 unfolding allCosts
 all-capped [] h = refl
 all-capped (c ∷ cs) h = rw (le-leb c maxCost (h 0 (omega arith))) (all-capped cs (λ k l. h (suc k) (suc-le-suc l)))
 
--- and only they do
+-- costs that pass the test for the costs are in range at each place
 pub capped-all : (cs : List ℕ) → allCosts cs ≡ true → Capped cs
 unfolding allCosts
 capped-all [] h i = omega arith
@@ -64,12 +64,12 @@ stepwise (x ∷ []) h = (tt, tt)
 stepwise (x ∷ y ∷ ys) h = (h 0 (omega arith), stepwise (y ∷ ys) (λ k l. h (suc k) (suc-le-suc l)))
 
 module _ (s : Simplex) (m : ℕ) where
-  -- the cost of vertex k of them
+  -- the cost of vertex k of the first m places is cost k of the simplex
   cost-at : (k : ℕ) → k < m → getD (unpack m s) k blank .cost ≡ getD (s .costs) k 0
   unfolding unpack
   cost-at k l = ap costOf (getD-upTo (place s) k m blank l)
 
-  -- they are in order where no cost is below the one before it
+  -- the vertices of the first m places are in order where no cost is below the one before it
   pub rising : ((k : ℕ) → k < m → getD (s .costs) (k - 1) 0 ≤ getD (s .costs) k 0) → inOrder (unpack m s) ≡ true
   rising h =
       in-order (unpack m s)
@@ -79,7 +79,7 @@ module _ (s : Simplex) (m : ℕ) where
       let e : suc k - 1 ≡ k = omega arith in
       rw (cost-at k (omega arith), cost-at (suc k) u) (rw e at (h (suc k) u))))
 
-  -- and not where one is
+  -- the vertices of the first m places are not in order where a cost is below the one before it
   pub falling : (k : ℕ) → k < m → getD (s .costs) k 0 < getD (s .costs) (k - 1) 0 → inOrder (unpack m s) ≡ false
   falling k l h =
       refuted (inOrder (unpack m s))
@@ -91,7 +91,7 @@ module _ (s : Simplex) (m : ℕ) where
 abbrev bare : Vertex → Vertex
 bare v = record { point = []; cost = v .cost }
 
--- the order is that of the costs
+-- vertices are in order exactly if they are so without their points
 order-bare : (vs : List Vertex) → inOrder (map bare vs) ≡ inOrder vs
 unfolding inOrder
 order-bare [] = refl
@@ -104,11 +104,11 @@ unfolding unpack upTo
 bare-places s zero = refl
 bare-places s (suc k) = rw (map-append bare (placesOf k (s .costs)) _, map-append bare (unpack k s) _, bare-places s k)
 
--- so they are in order alike
+-- a simplex's places are in order exactly if those of its costs are
 order-by : (s : Simplex) (m : ℕ) → inOrder (placesOf m (s .costs)) ≡ inOrder (unpack m s)
 order-by s m = sym (order-bare (placesOf m (s .costs))) ∙ ap inOrder (bare-places s m) ∙ order-bare (unpack m s)
 
--- and so where none may stand
+-- where b leaves no place and where it leaves all, a simplex's places are in order exactly if those of its costs are
 order-unless : (b : Bool) (s : Simplex) (m : ℕ) → inOrder (cond b [] (placesOf m (s .costs))) ≡ inOrder (cond b [] (unpack m s))
 order-unless true s m = refl
 order-unless false s m = order-by s m
@@ -155,12 +155,12 @@ module _ (s : Search) (h : sound s ≡ true) where
         gathered = capped-all (s .gathered .costs) search;
       }
 
-  -- its phase fits
+  -- the phase of a sound search fits
   pub fits : Fits (s .setup .n) (s .phase)
   unfolding sound
   fits = let k = simp and-eq-true-iff at h in phase-fits (s .setup .n) (s .counts .builds) (s .phase) search
 
-  -- it has readings left
+  -- a sound search has fewer readings than the largest budget
   pub below : s .readings < maxBudget
   unfolding sound
   below = let k = simp and-eq-true-iff at h in omega (arith, leb-true, ltb-true)
@@ -174,18 +174,18 @@ or-other false b h n = h
 unrefused : (s : Search) (v : Verdict) → check (undamaged s) Damaged (check (not (isEnded (s .phase))) SearchEnded v) ≡ Accepted → sound s ≡ true
 unrefused s v h = let k = simp check-iff at h in or-other (isEnded (s .phase)) (sound s) (k .0) (k .1 .0)
 
--- so an accepted ask has a sound search
+-- the search of an accepted ask is sound
 pub ask-sound : (s : Search) → askVerdict s ≡ Accepted → sound s ≡ true
 unfolding askVerdict
 ask-sound s = unrefused s Accepted
 
 module _ (s : Search) (number cost : ℕ) (h : tellVerdict s number cost ≡ Accepted) where
-  -- and so does an accepted tell
+  -- the search of an accepted tell is sound
   pub tell-sound : sound s ≡ true
   unfolding tellVerdict
   tell-sound = unrefused s _ h
 
-  -- whose cost is in range
+  -- the cost of an accepted tell is in range
   pub tell-low : cost ≤ maxCost
   unfolding tellVerdict
   tell-low = let k = simp check-iff at h in omega (arith, leb-true)

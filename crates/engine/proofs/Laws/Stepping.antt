@@ -20,12 +20,12 @@ use Rattle.engine.specs.Ready.{Ready}
 pub best-first : (k : ℕ) (v b : Vertex) → k ≡ 0 → bestAfter k v b ≡ v
 best-first k v b e = rw e
 
--- a lower one replaces the best
+-- a reading after the first that is lower than the best replaces it
 pub best-lower : (k : ℕ) (v b : Vertex) → k ≢ 0 → v .cost < b .cost → bestAfter k v b ≡ v
 best-lower zero v b h l = absurd (h refl)
 best-lower (suc k) v b h l = rw (lt-ltb (v .cost) (b .cost) l)
 
--- any other leaves it
+-- a reading after the first that is not lower than the best leaves the best
 pub best-stays : (k : ℕ) (v b : Vertex) → k ≢ 0 → b .cost ≤ v .cost → bestAfter k v b ≡ b
 best-stays zero v b h l = absurd (h refl)
 best-stays (suc k) v b h l = rw (le-ltb (v .cost) (b .cost) l)
@@ -42,7 +42,7 @@ spent-ended (Shrinking j) e = absurd (true≢false (sym e))
 spent-ended (Probing p) e = absurd (true≢false (sym e))
 spent-ended (Ended cause) e = refl
 
--- and ends any other
+-- a spent budget ends a search that has not ended, with cause budget
 pub spent-live : (p : Phase) → isEnded p ≡ false → spentPhase true p ≡ Ended Budget
 spent-live (Building i) e = refl
 spent-live Reflecting e = refl
@@ -60,14 +60,14 @@ open-first zero zero e h = refl
 open-first zero (suc i) e h = absurd (omega arith)
 open-first (suc b) i e h = absurd (omega arith)
 
--- every other of a build is
+-- every reading of a build but the very first is open
 pub open-later : (b i : ℕ) → (b ≢ 0) ⊎ (i ≢ 0) → firstOpen b i ≡ 1
 open-later zero zero h = absurd (⊎-elim (λ k. k refl) (λ k. k refl) h)
 open-later zero (suc i) h = refl
 open-later (suc b) zero h = refl
 open-later (suc b) (suc i) h = refl
 
--- at most one reading is added
+-- a reading of a build adds at most one to the open readings
 pub open-small : (b i : ℕ) → firstOpen b i ≤ 1
 open-small zero zero = omega arith
 open-small zero (suc i) = omega arith
@@ -76,6 +76,6 @@ open-small (suc b) (suc i) = omega arith
 
 -- ---- what a step may take for granted
 
--- a noted reading leaves it
+-- a search that has noted one reading more still has what every step needs
 pub ready-noted : (s : Search) (v : Vertex) → Ready s → Ready (noted v s)
 ready-noted s v h = record { low = h .low; high = h .high; rule = h .rule; counts = h .counts; standing = h .standing; gathered = h .gathered }

@@ -27,28 +27,28 @@ use Rattle.engine.proofs.Laws.Placing.{rest-more}
 
 -- ---- the sums of costs
 
--- one number more
+-- the total with one number more is the total before and that number
 total-more : (xs : List ℕ) (x : ℕ) → total (xs ++ (x ∷ [])) ≡ total xs + x
 unfolding total
 total-more [] x = omega arith
 total-more (y ∷ xs) x = omega (arith, total-more xs x)
 
--- the sum over one cost more
+-- the sum of f over one cost more is the sum before and f of that cost
 pub sum-more : (f : ℕ → ℕ) (cs : List ℕ) (i : ℕ) → i < length cs → total (map f (take (i + 1) cs)) ≡ total (map f (take i cs)) + f (getD cs i 0)
 sum-more f cs i h = rw (add-one, take-suc cs i 0 h, map-append f, total-more)
 
--- the sum of numbers that are at most b each
+-- the sum of f over the first i costs is at most i times b, where f of each is at most b
 sum-capped : (f : ℕ → ℕ) (b : ℕ) (cs : List ℕ) (i : ℕ) → ((j : ℕ) → f (getD cs j 0) ≤ b) → total (map f (take i cs)) ≤ i * b
 unfolding total
 sum-capped f b cs zero h = omega arith
 sum-capped f b [] (suc i) h = omega arith
 sum-capped f b (c ∷ cs) (suc i) h = omega (arith, h 0, sum-capped f b cs i (λ (j : ℕ). h (suc j)))
 
--- the sum of costs in range
+-- the sum of the first i costs is at most i times the largest cost, where each is in range
 pub plain-capped : (cs : List ℕ) (i : ℕ) → Capped cs → total (take i cs) ≤ i * maxCost
 plain-capped cs i h = rw map-id at (sum-capped (λ (x : ℕ). x) maxCost cs i h)
 
--- and of their squares
+-- the sum of the squares of the first i costs is at most i times the largest cost squared, where each is in range
 pub squares-capped : (cs : List ℕ) (i : ℕ) → Capped cs → total (map square (take i cs)) ≤ i * square maxCost
 squares-capped cs i h = sum-capped square (square maxCost) cs i (λ (j : ℕ). mul-le-mul (h j) (h j))
 
@@ -75,7 +75,7 @@ rest-points s (suc n) =
 
 -- ---- the rule by the movement
 
--- one replaced vertex more
+-- the movement with one replaced vertex more runs on from the movement before
 pub movement-more : (n : ℕ) (xs ys : List (List Float)) (x y : List Float) (t : Float) → length xs ≡ length ys → movement n (xs ++ (x ∷ [])) (ys ++ (y ∷ [])) t ≡ apart x y (movement n xs ys t) n
 unfolding movement
 movement-more n [] [] x y t h = refl

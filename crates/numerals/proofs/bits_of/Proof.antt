@@ -15,7 +15,7 @@ is-number nan e = absurd (true≢false e)
 is-number (inf s) e = tt
 is-number (fin s m n) e = tt
 
--- one that does is the NaN
+-- a float that differs from itself is the NaN
 is-nan : (x : Float) → ne x x ≡ true → x ≡ nan
 is-nan x e = differs-from-itself x (rw e tt)
 

@@ -13,15 +13,15 @@ use Rattle.numerals.proofs.digit.Lts as lts
 
 -- a byte x and the range from a to b
 module _ (a b x : ℕ) where
-  -- x is in it
+  -- a byte x in the range from a to b passes the test for that range
   inside : a ≤ x → leb x b ≡ true → (leb a x && leb x b) ≡ true
   inside h e = rw (le-leb a x h, e)
 
-  -- x is below it
+  -- a byte x below the range from a to b fails the test for that range
   under : x < a → (leb a x && leb x b) ≡ false
   under h = rw (lt-leb a x h)
 
-  -- x is above it
+  -- a byte x above the range from a to b fails the test for that range
   over : a ≤ x → leb x b ≡ false → (leb a x && leb x b) ≡ false
   over h e = rw (le-leb a x h, e)
 

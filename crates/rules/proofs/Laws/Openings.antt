@@ -44,7 +44,7 @@ check-iff false r v = (λ h. let z : _≡_ {A = ℕ} 0 1 = cc in absurd (omega a
 axis-passes : (i : ℕ) (x : Axis) (v : Verdict) → axisChecks i x v ≡ Accepted → ((x .lo <ᶠ x .hi) ≡ true) × (v ≡ Accepted)
 axis-passes i x v h = let k = simp (check-iff, and-eq-true-iff) at h in search
 
--- the same of the k axes from the i-th on
+-- k axes from the i-th on that pass have lo < hi each, and the checks after them accept
 axes-pass : (k i : ℕ) (xs : List Axis) (v : Verdict) → axesChecks k i xs v ≡ Accepted
     → ((a : ℕ) → i ≤ a → a < i + k → (getD xs a noAxis .lo <ᶠ getD xs a noAxis .hi) ≡ true) × (v ≡ Accepted)
 unfolding axesChecks
@@ -90,34 +90,34 @@ pub record Sane (t : Setup) : Type 0 where
   pub limits : (a : ℕ) → a < t .n → (axis t a .lo ≤ᶠ axis t a .hi) ≡ true
 
 module _ (n : ℕ) (axes : List Axis) (rule : RuleChoice) (c : Coefficients) (budget : ℕ) where
-  -- the answer's verdict is that of the checks
+  -- where the answer to an opening accepts, the checks accept
   pub opened-verdict : opening n axes rule c budget .verdict ≡ Accepted → openVerdict n axes rule c budget ≡ Accepted
   unfolding opening
   opened-verdict h = sym (openedBy-verdict (openVerdict n axes rule c budget) (fresh n axes rule c budget)) ∙ h
 
-  -- the answer's search is the fresh one
+  -- where the answer to an opening accepts, its search is the fresh one
   pub opened-fresh : opening n axes rule c budget .verdict ≡ Accepted → opening n axes rule c budget .search ≡ fresh n axes rule c budget
   unfolding opening
   opened-fresh h = rw (opened-verdict h)
 
   module _ (h : openVerdict n axes rule c budget ≡ Accepted) where
-    -- the limits of each axis are apart
+    -- where the checks of an opening accept, each axis has lo < hi
     below : (a : ℕ) → a < n → (getD axes a noAxis .lo <ᶠ getD axes a noAxis .hi) ≡ true
     unfolding openVerdict
     below a l =
         let counts = simp (check-iff, and-eq-true-iff) at h in
         axes-pass _ 0 axes _ (counts .1) .0 a (omega arith) (omega (arith, leb-true))
 
-    -- the search keeps the axes that it was given
+    -- where the checks of an opening accept, the search keeps the axes that it was given
     pub opened-axis : (a : ℕ) → a < n → axis (fresh n axes rule c budget .setup) a ≡ getD axes a noAxis
     unfolding fresh
     opened-axis a l = kept-axis n axes a l (in-list axes a (below a l))
 
-    -- the limits of each axis are in order
+    -- where the checks of an opening accept, each axis has lo ≤ hi
     pub opened-limits : (a : ℕ) → a < n → (getD axes a noAxis .lo ≤ᶠ getD axes a noAxis .hi) ≡ true
     opened-limits a l = lt-le (getD axes a noAxis .lo) (getD axes a noAxis .hi) (below a l)
 
-    -- the setup is sane
+    -- where the checks of an opening accept, its setup is sane
     pub opened-sane : Sane (fresh n axes rule c budget .setup)
     unfolding fresh openVerdict
     opened-sane =
@@ -140,7 +140,7 @@ clamped-within t h a l v =
     let x = axis t a in
     (clamp-low (x .lo) (x .hi) v (h .limits a l), clamp-high (x .lo) (x .hi) v (h .limits a l))
 
--- every coordinate of an unfinished phase is a clamped one
+-- every coordinate that a phase before the end asks for lies within the limits of its axis
 coordinate-within : (s : Search) → Sane (s .setup) → (p : Phase) → isEnded p ≡ false → (a : ℕ) → a < s .setup .n
     → ((axis (s .setup) a .lo ≤ᶠ asked s p a) ≡ true) × ((asked s p a ≤ᶠ axis (s .setup) a .hi) ≡ true)
 unfolding built reflected expanded contracted shrunk probed

@@ -27,17 +27,17 @@ le-or-lt a b = pick (decLe a b)
 
 -- ---- the newcomer, one vertex at a time
 
--- it goes past a vertex of equal or lower cost
+-- a newcomer goes past a vertex of equal or lower cost
 pub insert-after : (v w : Vertex) (ws : List Vertex) → w .cost ≤ v .cost → insert v (w ∷ ws) ≡ w ∷ insert v ws
 unfolding insert
 insert-after v w ws h = cond-elim (λ (l : List Vertex). l ≡ w ∷ insert v ws) (passes v w) (λ e. refl) (λ e. absurd (omega (arith, tests)))
 
--- it stops before a vertex of higher cost
+-- a newcomer stops before a vertex of higher cost
 pub insert-before : (v w : Vertex) (ws : List Vertex) → v .cost < w .cost → insert v (w ∷ ws) ≡ v ∷ w ∷ ws
 unfolding insert
 insert-before v w ws h = cond-elim (λ (l : List Vertex). l ≡ v ∷ w ∷ ws) (passes v w) (λ e. absurd (omega (arith, tests))) (λ e. refl)
 
--- one vertex more
+-- a newcomer makes the vertices one more
 pub length-insert : (v : Vertex) (ws : List Vertex) → length (insert v ws) ≡ suc (length ws)
 unfolding insert
 length-insert v [] = refl
@@ -47,7 +47,7 @@ length-insert v (w ∷ ws) =
     (λ h. rw (insert-before v w ws h))
     (le-or-lt (w .cost) (v .cost))
 
--- a bound below the first cost stays one
+-- a number at most the first vertex's cost and the newcomer's is at most the first cost with the newcomer among them
 atMost-insert : (c : ℕ) (v : Vertex) (vs : List Vertex) → c ≤ v .cost → atMost c vs → atMost c (insert v vs)
 unfolding insert
 atMost-insert c v [] h k = h
@@ -57,7 +57,7 @@ atMost-insert c v (x ∷ xs) h k =
     (λ e. rw (insert-before v x xs e) h)
     (le-or-lt (x .cost) (v .cost))
 
--- the order stays
+-- vertices in order stay in order with a newcomer among them
 pub ordered-insert : (v : Vertex) (vs : List Vertex) → Ordered vs → Ordered (insert v vs)
 unfolding insert Ordered
 ordered-insert v [] h = (tt, tt)
@@ -67,21 +67,21 @@ ordered-insert v (x ∷ xs) h =
     (λ e. rw (insert-before v x xs e) (omega arith, h))
     (le-or-lt (x .cost) (v .cost))
 
--- a lower newcomer is first
+-- a newcomer that is lower than the first vertex is first
 pub first-lower : (v b : Vertex) (vs : List Vertex) → take 1 vs ≡ b ∷ [] → v .cost < b .cost → take 1 (insert v vs) ≡ v ∷ []
 first-lower v b [] e h = cc
 first-lower v b (x ∷ xs) e h =
     let same : x ≡ b = cc in
     rw (insert-before v x xs (rw same h))
 
--- any other leaves the first
+-- a newcomer that is not lower than the first vertex leaves that vertex first
 pub first-stays : (v b : Vertex) (vs : List Vertex) → take 1 vs ≡ b ∷ [] → b .cost ≤ v .cost → take 1 (insert v vs) ≡ b ∷ []
 first-stays v b [] e h = cc
 first-stays v b (x ∷ xs) e h =
     let same : x ≡ b = cc in
     rw (insert-after v x xs (rw same h), same)
 
--- the vertices are the same and the newcomer: every measure of them adds up
+-- every measure of vertices with a newcomer among them is the newcomer's and that of the vertices before
 pub total-insert : (f : Vertex → ℕ) (v : Vertex) (vs : List Vertex) → total (map f (insert v vs)) ≡ f v + total (map f vs)
 unfolding insert total
 total-insert f v [] = refl
@@ -91,7 +91,7 @@ total-insert f v (x ∷ xs) =
     (λ h. rw (insert-before v x xs h))
     (le-or-lt (x .cost) (v .cost))
 
--- every vertex is the newcomer or was there
+-- with a newcomer among vertices, each is the newcomer or one of the vertices before
 pub mem-insert : (v : Vertex) (vs : List Vertex) {w : Vertex} → List·Memᴰ w (insert v vs) → (w ≡ v) ⊎ List·Memᴰ w vs
 unfolding insert
 mem-insert v [] m = inl (List·Memᴰ·eq-of-singleton m)
@@ -103,22 +103,22 @@ mem-insert v (x ∷ xs) {w} m =
 
 -- ---- the newcomer's place
 
--- how many vertices stand before it
+-- how many vertices stand before the newcomer
 unfoldable pub rank : Vertex → List Vertex → ℕ
 rank v [] = 0
 rank v (x ∷ xs) = cond (leb (x .cost) (v .cost)) (suc (rank v xs)) 0
 
--- one vertex more stands before it past one of equal or lower cost
+-- past a vertex of equal or lower cost one vertex more stands before the newcomer
 rank-past : (v x : Vertex) (xs : List Vertex) → x .cost ≤ v .cost → rank v (x ∷ xs) ≡ suc (rank v xs)
 unfolding rank
 rank-past v x xs h = rw (le-leb (x .cost) (v .cost) h)
 
--- none stands before it at one of higher cost
+-- where the first vertex has a higher cost, no vertex stands before the newcomer
 rank-here : (v x : Vertex) (xs : List Vertex) → v .cost < x .cost → rank v (x ∷ xs) ≡ 0
 unfolding rank
 rank-here v x xs h = rw (lt-leb (x .cost) (v .cost) h)
 
--- it stands there, and the others stay as they stood
+-- the newcomer stands at its `rank`, and the other vertices stay as they stood
 pub insert-rank : (v : Vertex) (vs : List Vertex) → insert v vs ≡ take (rank v vs) vs ++ v ∷ drop (rank v vs) vs
 unfolding insert rank
 insert-rank v [] = refl
@@ -128,7 +128,7 @@ insert-rank v (x ∷ xs) =
     (λ h. rw (insert-before v x xs h, rank-here v x xs h))
     (le-or-lt (x .cost) (v .cost))
 
--- before it no cost is higher than its own
+-- before the newcomer's place no cost is higher than the newcomer's
 pub rank-before : (v : Vertex) (vs : List Vertex) (w : Vertex) → List·Memᴰ w (take (rank v vs) vs) → w .cost ≤ v .cost
 unfolding rank
 rank-before v [] w m = absurd (List·Memᴰ·not-nil m)
@@ -138,7 +138,7 @@ rank-before v (x ∷ xs) w m =
     (λ h. absurd (List·Memᴰ·not-nil (rw (rank-here v x xs h) at m)))
     (le-or-lt (x .cost) (v .cost))
 
--- no vertex costs less than the first
+-- of ordered vertices none costs less than the first
 lowest : (x : Vertex) (xs : List Vertex) → Ordered (x ∷ xs) → (w : Vertex) → List·Memᴰ w (x ∷ xs) → x .cost ≤ w .cost
 unfolding Ordered
 lowest x [] h w m = omega (arith, ap (λ (u : Vertex). u .cost) (List·Memᴰ·eq-of-singleton m))
@@ -148,7 +148,7 @@ lowest x (y ∷ ys) h w m =
     (λ t. omega (arith, lowest y ys (h .1) w t))
     (List·Memᴰ·cases-cons m)
 
--- after it every cost is higher than its own
+-- after the newcomer's place among ordered vertices every cost is higher than the newcomer's
 pub rank-after : (v : Vertex) (vs : List Vertex) → Ordered vs → (w : Vertex) → List·Memᴰ w (drop (rank v vs) vs) → v .cost < w .cost
 unfolding rank Ordered
 rank-after v [] o w m = absurd (List·Memᴰ·not-nil m)
@@ -158,7 +158,7 @@ rank-after v (x ∷ xs) o w m =
     (λ h. omega (arith, lowest x xs o w (rw (rank-here v x xs h) at m)))
     (le-or-lt (x .cost) (v .cost))
 
--- it is first exactly if it is lower than the first
+-- the newcomer is first exactly if it is lower than the first vertex
 pub rank-first : (v x : Vertex) (xs : List Vertex) → (rank v (x ∷ xs) ≡ 0) ↔ (v .cost < x .cost)
 rank-first v x xs = (λ e. ⊎-elim (λ h. omega (arith, rank-past v x xs h)) (λ h. h) (le-or-lt (x .cost) (v .cost)), rank-here v x xs)
 
@@ -173,7 +173,7 @@ ordered-take (suc zero) (x ∷ xs) h = (tt, tt)
 ordered-take (suc (suc k)) (x ∷ []) h = (tt, tt)
 ordered-take (suc (suc k)) (x ∷ y ∷ ys) h = (h .0, ordered-take (suc k) (y ∷ ys) (h .1))
 
--- a later place has no lower cost
+-- of ordered vertices a later one has no lower cost
 pub ordered-at : (vs : List Vertex) (i j : ℕ) → Ordered vs → i ≤ j → j < length vs → getD vs i blank .cost ≤ getD vs j blank .cost
 unfolding Ordered
 ordered-at [] i j h l k = absurd (not-suc-le-zero k)
@@ -188,7 +188,7 @@ in-order [] h = refl
 in-order (x ∷ []) h = refl
 in-order (x ∷ (y ∷ ys)) h = rw (le-leb (x .cost) (y .cost) (h .0)) (in-order (y ∷ ys) (h .1))
 
--- and only there
+-- the test for the order holds only where the order does
 pub from-in-order : (vs : List Vertex) → inOrder vs ≡ true → Ordered vs
 unfolding Ordered inOrder
 from-in-order [] h = tt

@@ -30,7 +30,7 @@ mem-replicate (suc k) m = ⊎-elim (λ e. e) (λ t. mem-replicate k t) (List·Me
 at-padded : (P : Vertex → Type 0) (vs : List Vertex) (k : ℕ) → P blank → ((v : Vertex) → List·Memᴰ v vs → P v) → (v : Vertex) → List·Memᴰ v (vs ++ replicate k blank) → P v
 at-padded P vs k b h v m = ⊎-elim (h v) (λ r. subst⁻¹ P (mem-replicate k r) b) (List·Memᴰ·append-cases vs m)
 
--- so each point at the places has eight numbers
+-- vertices with points of eight numbers, and blank ones after them, have points of eight numbers
 pub whole-padded : (vs : List Vertex) (k : ℕ) → Whole vs → Whole (vs ++ replicate k blank)
 whole-padded vs k = at-padded (λ (v : Vertex). length (v .point) ≡ 8) vs k refl
 
@@ -44,7 +44,7 @@ getD-padded (v ∷ vs) k (suc i) = getD-padded vs k i
 
 -- ---- the flat run
 
--- eight numbers are passed over for each vertex
+-- in the flat run eight numbers are passed over for each vertex
 pub drop-flat : (vs : List Vertex) (i : ℕ) → Whole vs → drop (8 * i) (flat vs) ≡ flat (drop i vs)
 unfolding flat
 drop-flat vs zero h = refl
@@ -53,12 +53,12 @@ drop-flat (v ∷ vs) (suc i) h =
     let e : 8 * suc i ≡ length (v .point) + 8 * i = omega (arith, h v (List·Memᴰ·head refl)) in
     rw (e, drop-append-add, drop-flat vs i (λ w m. h w (List·Memᴰ·tail m)))
 
--- a place that is read is an element
+-- place i of stored vertices is vertex i
 place-store : (vs : List Vertex) (i : ℕ) → Whole vs → i < length vs → place (store vs) i ≡ getD vs i blank
 unfolding store flat
 place-store vs i h l = rw (drop-flat vs i h, drop-cons vs i blank l, take-at (getD vs i blank .point) (flat (drop (suc i) vs)) 8 (h _ (mem-getD vs i blank l)), List·getD-map costOf vs i blank)
 
--- the first m places are the first m elements
+-- the first m places of stored vertices are the first m vertices
 unpack-store : (m : ℕ) (vs : List Vertex) → Whole vs → m ≤ length vs → unpack m (store vs) ≡ take m vs
 unfolding unpack upTo
 unpack-store zero vs h l = refl
@@ -70,7 +70,7 @@ unpack-store (suc m) vs h l = rw (place-store vs m h l, unpack-store m vs h (ome
 padded-long : (vs : List Vertex) (k : ℕ) → length vs ≤ length (vs ++ replicate k blank)
 padded-long vs k = simp length-append (omega arith)
 
--- the first m places hold the first m vertices
+-- the first m places of packed vertices hold the first m vertices
 pub unpack-take : (m : ℕ) (vs : List Vertex) → Whole vs → m ≤ length vs → unpack m (pack vs) ≡ take m vs
 unpack-take m vs h l =
     let k = 9 - length vs in
@@ -80,13 +80,13 @@ unpack-take m vs h l =
 pub unpack-pack : (vs : List Vertex) → Whole vs → unpack (length vs) (pack vs) ≡ vs
 unpack-pack vs h = unpack-take (length vs) vs h (omega arith) ∙ take-length vs
 
--- place i holds vertex i
+-- place i of packed vertices holds vertex i
 pub place-pack : (vs : List Vertex) (i : ℕ) → Whole vs → i < length vs → place (pack vs) i ≡ getD vs i blank
 place-pack vs i h l =
     let k = 9 - length vs in
     place-store (vs ++ replicate k blank) i (whole-padded vs k h) (omega (arith, padded-long vs k)) ∙ getD-padded vs k i
 
--- and its cost
+-- the cost at place i of packed vertices is that of vertex i, and a blank one's past the last vertex
 pub cost-pack : (vs : List Vertex) (i : ℕ) → getD (pack vs .costs) i 0 ≡ getD vs i blank .cost
 unfolding store
 cost-pack vs i =

@@ -10,15 +10,15 @@ use Rattle.rules.specs.declared.Vertex.{Vertex}
 use Rattle.rules.specs.declared.Search.{Search}
 use Rattle.rules.specs.declared.Phase.{Phase}
 
--- two numbers whose test fails are apart
+-- two numbers that fail the test for equality are apart
 pub eqb-apart : (a b : ℕ) → eqb a b ≡ false → a ≢ b
 eqb-apart a b e = eqb-false a b e
 
--- and the other way
+-- two numbers that are apart fail the test for equality
 pub apart-eqb : (a b : ℕ) → a ≢ b → eqb a b ≡ false
 apart-eqb a b h = ne-eqb a b h
 
--- the same of negated tests
+-- two numbers that fail the negated test for equality are equal, and two that pass it are apart
 pub not-apart : (a b : ℕ) → not (eqb a b) ≡ false → a ≡ b
 not-apart a b e = eqb-true a b (not-false (eqb a b) e)
 

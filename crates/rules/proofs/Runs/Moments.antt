@@ -44,7 +44,7 @@ module _ (o : Search) (begun : Begun o) where
   -- ---- a history and what came after it
 
   module _ (before : List ℕ) (c : ℕ) (since : List ℕ) (t : Joined o (before ++ c ∷ since)) where
-    -- the history up to c, and the rest
+    -- the history up to c and the rest after it are the whole history
     split : (before ++ c ∷ []) ++ since ≡ before ++ c ∷ since
     split = append-snoc before c since
 
@@ -62,7 +62,7 @@ module _ (o : Search) (begun : Begun o) where
     unfolding Joined
     accepts-here = let r = joined-right o before (c ∷ since) t in (r .0, r .1)
 
-    -- the first vertex at the end of a piece
+    -- the first vertex at the end of a piece is the earliest least of the readings till then
     pub run-first : Ends o before c → (k : ℕ) × EarliestLeast (before ++ c ∷ []) k × (take 1 (standingOf (run o (before ++ c ∷ []))) ≡ reading o (before ++ c ∷ since) k ∷ [])
     run-first ends =
         let r = whole-run o begun before (joined-left o before (c ∷ since) t) in
@@ -83,7 +83,7 @@ module _ (o : Search) (begun : Begun o) where
         let r = whole-run o begun here joined-here in
         omega (arith, ran (readingsOf o here) (run o here) (r .inv) (r .below) since joined-since .falls builds shrinks)
 
-  -- ---- settled exactly when
+  -- ---- settled exactly when a probe round has been told in full and none was lower
 
   pub run-settled-only : (h : List ℕ) → Joined o h → run o h .phase ≡ Ended Settled → (before : List ℕ) × (round : List ℕ) × (h ≡ before ++ round) × FullRound o before round
   unfolding run
@@ -107,7 +107,7 @@ module _ (o : Search) (begun : Begun o) where
     same-budget : run o h .setup .budget ≡ o .setup .budget
     same-budget = ap (λ (t : Setup). t .budget) (whole-run o begun h t .kept)
 
-    -- and one with that many has ended
+    -- a search with as many readings as its budget has ended
     full-ends : length h ≡ o .setup .budget → isEnded (run o h .phase) ≡ true
     full-ends l = go (isEnded (run o h .phase)) refl
       where

@@ -47,7 +47,7 @@ module _ (s : Search) (c j : ℕ) (e : s .phase ≡ Probing j) where
   unfolding accept advanced
   probed = ap (λ (p : Phase). budgeted (advanced p (s .best .cost) (readingOf s c) (noted (readingOf s c) s))) e
 
-  -- either way the best is as noted
+  -- after a probe is told the best is as noted, whatever becomes of the round
   best-after : accept s c .best ≡ bestAfter (s .readings) (readingOf s c) (s .best)
   unfolding probedOn
   best-after =
@@ -77,14 +77,14 @@ module _ (s : Search) (c j : ℕ) (e : s .phase ≡ Probing j) where
 
 -- ---- a full round settles
 
--- the last probe, not lower
+-- the last probe of a round, not lower than the best, settles the search
 last-settles : (b c j n : ℕ) (q : Phase) → Outcome b c j n q → b ≤ c → j + 1 ≡ 2 * n → q ≡ Ended Settled
 last-settles b c j n q (restarting l e) h m = absurd (omega arith)
 last-settles b c j n q (settling l k e) h m = e
 last-settles b c j n q (going l k e) h m = absurd (k m)
 last-settles b c j n q (stopping k e) h m = absurd (k h m)
 
--- an earlier one, not lower, where the search goes on
+-- after an earlier probe of a round, not lower than the best, the next probe follows, where the search goes on
 earlier-goes : (b c j n : ℕ) (q : Phase) → Outcome b c j n q → b ≤ c → j + 1 ≢ 2 * n → isEnded q ≡ false → q ≡ Probing (j + 1)
 earlier-goes b c j n q (restarting l e) h m live = absurd (omega arith)
 earlier-goes b c j n q (settling l k e) h m live = absurd (m k)
@@ -104,7 +104,7 @@ settles rs s inv below (c ∷ d ∷ q) j e many some low t =
     settles (rs ▹ readingOf s c) (accept s c) (g .inv) (accept-below rs s inv below c (t .0) (t .1)) (d ∷ q) (j + 1) k (rw (g .kept) (omega arith)) (omega arith)
     (λ i m. rw b (low (suc i) (suc-le-suc m))) (t .2)
 
--- ---- nothing else does
+-- ---- only a full round settles
 
 -- the last j costs of h are a round's, none of them lower than the best at its start, which is still b
 pub record Round (o : Search) (h : List ℕ) (j b : ℕ) : Type 0 where
@@ -138,7 +138,7 @@ round-begins o h (Probing (suc p)) e f = absurd f
 round-begins o h (Ended Settled) e f = absurd f
 round-begins o h (Ended Budget) e f = tt
 
--- one more cost that is not lower
+-- one more cost that is not lower than the best makes a round one cost longer
 round-more : (o : Search) (h : List ℕ) (j b c d : ℕ) → Round o h j b → b ≤ c → d ≡ b → Round o (h ++ c ∷ []) (j + 1) d
 round-more o h j b c d r l e =
     record {
@@ -151,7 +151,7 @@ round-more o h j b c d r l e =
       same = r .same ∙ sym e;
     }
 
--- with it the round may be full
+-- a round of 2n costs is a full round
 round-full : (o : Search) (h : List ℕ) (j b : ℕ) → Round o h j b → j ≡ 2 * o .setup .n → (before : List ℕ) × (round : List ℕ) × (h ≡ before ++ round) × FullRound o before round
 round-full o h j b r e = (r .before, r .round, r .splits, record { begins = r .begins; full = r .many ∙ e; noneLower = r .noneLower })
 

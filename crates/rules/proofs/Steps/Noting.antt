@@ -37,17 +37,17 @@ known-new rs v = Memᴰ·append-right rs (List·Memᴰ·head refl)
 
 -- ---- the best of the readings before and the new one
 
--- a lower reading is the best
+-- a reading that is lower than the best before it is the best
 pub best-falls : (k : ℕ) (v b : Vertex) → 1 ≤ k → v .cost < b .cost → bestAfter k v b ≡ v
 best-falls zero v b l h = absurd (not-suc-le-zero l)
 best-falls (suc k) v b l h = better-elim (λ (x : Vertex). x ≡ v) (replaces v b) (λ e. refl) (λ e. absurd (omega (arith, tests)))
 
--- any other leaves the best
+-- a reading that is not lower than the best before it leaves the best
 pub best-stays : (k : ℕ) (v b : Vertex) → 1 ≤ k → b .cost ≤ v .cost → bestAfter k v b ≡ b
 best-stays zero v b l h = absurd (not-suc-le-zero l)
 best-stays (suc k) v b l h = better-elim (λ (x : Vertex). x ≡ b) (replaces v b) (λ e. absurd (omega (arith, tests))) (λ e. refl)
 
--- so the best is first among vertices of which the best was first
+-- where the best is first among vertices, the best after a reading is first with that reading among them
 pub leads-on : (vs : List Vertex) (v b : Vertex) (k : ℕ) → 1 ≤ k → Leads vs b → Leads (insert v vs) (bestAfter k v b)
 leads-on vs v b k l h =
     ⊎-elim

@@ -28,7 +28,7 @@ module _ (rs : List Vertex) (v : Vertex) (s : Search) (inv : Inv rs s) (after : 
       probes-on rs v s inv after _ (v ∷ []) _ _ (record { are = refl; known = known }) (idle .some) (idle .unfinished)
       (record { high = omega (arith, after .sane .atLeast); many = refl; sorted = (tt, tt); leads = λ m. rw e; unfinished = omega (arith, idle .unfinished); first = λ q. absurd (omega (arith, idle .stood)); again = λ m. omega arith; some = λ m. omega arith })
 
-  -- any other goes on to the next, or settles the search
+  -- a probe that is not lower leads to the next one, or settles the search
   misses : s .best .cost ≤ v .cost → TakesReading (rs ▹ v) [] 1 s (probeMissed p probedSearch)
   misses l =
       let still : Idle 0 (inv .gs) (s .readings + 1) (probedOnce (s .counts)) = record { stood = idle .stood; some = omega arith; empty = idle .empty; unfinished = idle .unfinished } in

@@ -60,7 +60,7 @@ index-from b xs from end found = found ∙ ap (λ (l : List ℕ). from + indexOf
 -- ---- the pieces from an index on, end being the index of the first b from there, or the length where there is none
 
 module _ (b : ℕ) (xs : List ℕ) (from end : ℕ) (within : from ≤ length xs) (found : end ≡ from + indexOf b (slice from (length xs) xs)) where
-  -- the first piece goes up to end, and the others are those from the index after it
+  -- of the pieces from an index on, the first goes up to end, the next b, and the others are those from the index after end
   pub cut-next : end < length xs → cut b (drop from xs) ≡ take (end - from) (drop from xs) ∷ cut b (drop (end + 1) xs)
   cut-next h =
       let e : end ≡ from + indexOf b (drop from xs) = index-from b xs from end found in
@@ -69,7 +69,7 @@ module _ (b : ℕ) (xs : List ℕ) (from end : ℕ) (within : from ≤ length xs
       let l : indexOf b (drop from xs) < length (drop from xs) = simp length-drop (omega arith) in
       cut-line b (drop from xs) l ∙ rw (n, drop-drop (suc (end - from)) from xs, m)
 
-  -- it is the only one where end is the length
+  -- of the pieces from an index on, the first goes up to end and is the only one, where end is the length
   pub cut-end : length xs ≤ end → cut b (drop from xs) ≡ take (end - from) (drop from xs) ∷ []
   cut-end h =
       let e : end ≡ from + indexOf b (drop from xs) = index-from b xs from end found in
@@ -79,17 +79,17 @@ module _ (b : ℕ) (xs : List ℕ) (from end : ℕ) (within : from ≤ length xs
 
 -- ---- what reading a field gives
 
--- its number, where it has the form
+-- reading a field that has the form gives its number
 pub number-well : (f : Form) (xs : List ℕ) → isNumber f xs ≡ true → numberRead f xs ≡ record { well = true; value = fieldValue f xs }
 unfolding numberRead
 number-well f xs e = rw e
 
--- 0, where it does not
+-- reading a field that does not have the form gives 0
 pub number-ill : (f : Form) (xs : List ℕ) → isNumber f xs ≡ false → numberRead f xs ≡ record { well = false; value = 0 }
 unfolding numberRead
 number-ill f xs e = rw e
 
--- it says whether the field has the form
+-- what reading a field gives says whether the field has the form
 pub number-test : (f : Form) (xs : List ℕ) → numberRead f xs .well ≡ isNumber f xs
 number-test f xs = go (isNumber f xs) refl
   where

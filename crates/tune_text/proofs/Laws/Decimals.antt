@@ -52,7 +52,7 @@ fewest-most b least n r m p f l h =
 
 -- ---- zeros in front
 
--- the digits of zero
+-- the digits of zero are zeros
 digits-zero : (j : ℕ) → digits 10 j 0 ≡ replicate j 48
 digits-zero zero = refl
 digits-zero (suc j) = rw (digits-zero j) (rw add-one at (replicate-append-replicate {A = ℕ} j 1 48))
@@ -79,14 +79,14 @@ abbrev Led : List ℕ → Type 0
 Led [] = ⊥
 Led (x ∷ xs) = x ≡ 48 → ⊥
 
--- nothing falls away from these
+-- nothing falls away from digits of which the first is not zero
 trim-led : (xs : List ℕ) → Led xs → trim xs ≡ xs
 unfolding trim
 trim-led [] h = refl
 trim-led (x ∷ []) h = refl
 trim-led (x ∷ (y ∷ ys)) h = rw (ne-eqb x 48 h)
 
--- further digits keep the first
+-- digits of which the first is not zero stay such with further digits after them
 led-more : (xs ys : List ℕ) → Led xs → Led (xs ++ ys)
 led-more [] ys h = absurd h
 led-more (x ∷ xs) ys h = h
@@ -100,7 +100,7 @@ led-digits (suc r) n l h =
     _
     (led-digits r (n / 10) (le-div-iff-mul-le (zero-lt-suc 9) .1 (rw pow-suc at l)) (div-lt-iff-lt-mul (zero-lt-suc 9) .1 (rw pow-suc at h)))
 
--- so the fewest digits stay
+-- nothing falls away from a number's fewest digits
 trim-fewest : (r n : ℕ) → Fewest 10 1 n r → trim (digits 10 r n) ≡ digits 10 r n
 unfolding trim
 trim-fewest zero n f = refl
@@ -109,7 +109,7 @@ trim-fewest (suc (suc r)) n f =
     let e : suc (suc r) - 1 ≡ suc r = omega arith in
     trim-led (digits 10 (suc (suc r)) n) (led-digits (suc r) n (rw e at (f .2 (omega arith))) (f .1))
 
--- of m digits, as many or more, they are left
+-- m digits of a number without the zeros in front are its fewest digits, where these are no more than m
 trim-digits : (m r n : ℕ) → r ≤ m → Fewest 10 1 n r → trim (digits 10 m n) ≡ digits 10 r n
 trim-digits m r n h f =
     let e : m ≡ (m - r) + r = omega arith in

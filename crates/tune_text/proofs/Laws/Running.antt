@@ -23,7 +23,7 @@ use Rattle.tune_text.specs.declared.Stepped.{Stepped}
 abbrev left : List ℕ → State → List ℕ
 left bytes s = drop (s .position) bytes
 
--- how many bytes of it stand before its first newline
+-- how many bytes of what is left of the input stand before its first newline
 abbrev lineEnd : List ℕ → State → ℕ
 lineEnd bytes s = indexOf newline (left bytes s)
 
@@ -60,15 +60,15 @@ step-done bytes s d = rw d
 none-left : (bytes : List ℕ) (s : State) → isDone (s .progress .stage) ≡ true → stepsLeft bytes s ≡ 0
 none-left bytes s d = rw d
 
--- before, one more than the bytes that are left
+-- before all is done, `stepsLeft` is one more than the bytes that are left
 pub some-left : (bytes : List ℕ) (s : State) → isDone (s .progress .stage) ≡ false → stepsLeft bytes s ≡ suc (length bytes - s .position)
 some-left bytes s d = rw d
 
--- at most one more than the bytes that are left
+-- `stepsLeft` is at most one more than the bytes that are left
 pub few-left : (bytes : List ℕ) (s : State) → stepsLeft bytes s ≤ suc (length bytes - s .position)
 few-left bytes s = cond-elim (λ (n : ℕ). n ≤ suc (length bytes - s .position)) (isDone (s .progress .stage)) (λ e. omega arith) (λ e. omega arith)
 
--- where none is left, all is done
+-- where no step is left, all is done
 pub left-done : (bytes : List ℕ) (s : State) → stepsLeft bytes s ≤ 0 → isDone (s .progress .stage) ≡ true
 left-done bytes s = done (isDone (s .progress .stage))
   where
@@ -76,7 +76,7 @@ left-done bytes s = done (isDone (s .progress .stage))
     done true h = refl
     done false h = absurd (omega arith)
 
--- each step leaves less
+-- each step before all is done makes `stepsLeft` less
 pub falls : (bytes : List ℕ) (s : State) → isDone (s .progress .stage) ≡ false → stepsLeft bytes (stepping bytes s .state) < stepsLeft bytes s
 falls bytes s d =
     rw (some-left bytes s d)
@@ -106,20 +106,20 @@ unfolding printed
 printed-done zero bytes s d = refl
 printed-done (suc k) bytes s d = rw (step-done bytes s d) (printed-done k bytes s d)
 
--- one more step, at the end
+-- the state after k + 1 steps is that of one step from the state after k
 pub state-after-more : (k : ℕ) (bytes : List ℕ) (s : State) → stateAfter (suc k) bytes s ≡ stepping bytes (stateAfter k bytes s) .state
 unfolding stateAfter
 state-after-more zero bytes s = refl
 state-after-more (suc k) bytes s = state-after-more k bytes (stepping bytes s .state)
 
--- and its line
+-- the lines of k + 1 steps are those of k steps and the line of the last
 pub printed-more : (k : ℕ) (bytes : List ℕ) (s : State)
     → printed (suc k) bytes s ≡ printed k bytes s ++ written (stepping bytes (stateAfter k bytes s) .text)
 unfolding stateAfter printed
 printed-more zero bytes s = append-nil _
 printed-more (suc k) bytes s = rw (printed-more k bytes (stepping bytes s .state)) (simp append-assoc)
 
--- steps and steps after them
+-- the lines of i + j steps are those of the first i steps and those of the j steps after them
 pub printed-join : (i j : ℕ) (bytes : List ℕ) (s : State) → printed (i + j) bytes s ≡ printed i bytes s ++ printed j bytes (stateAfter i bytes s)
 unfolding stateAfter printed
 printed-join zero j bytes s = rw zero-add

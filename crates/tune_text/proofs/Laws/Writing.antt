@@ -19,50 +19,50 @@ written-text xs = take-append-seam xs _
 -- ---- a line whose bytes are known
 
 module _ (t : Text) (xs : List ℕ) (e : t ≡ textOf xs) where
-  -- its bytes
+  -- the bytes written in a line that is `textOf xs` are xs
   written-known : written t ≡ xs
   written-known = rw e (written-text xs)
 
-  -- its room
+  -- a line that is `textOf xs` has room for k bytes more, where xs and these are at most 192 bytes
   pub room-known : (k : ℕ) → length xs + k ≤ 192 → Room k t
   room-known k h = (rw written-known e, rw e h)
 
-  -- the line with more bytes
+  -- a line that is `textOf xs`, with the bytes ys after these, is `textOf (xs ++ ys)`
   pub then-known : (u : Text) (ys : List ℕ) → u ≡ textOf (written t ++ ys) → u ≡ textOf (xs ++ ys)
   then-known u ys f = rw (← written-known) f
 
 -- ---- a line that starts with the bytes xs
 
 module _ (t : Text) (e : t ≡ textOf []) (u : Text) (xs : List ℕ) (f : u ≡ textOf (written t ++ xs)) where
-  -- its room
+  -- a line that starts with the bytes xs has room for k bytes more, where xs and these are at most 192 bytes
   pub room-first : (k : ℕ) → length xs + k ≤ 192 → Room k u
   room-first = room-known u xs (then-known t [] e u xs f)
 
-  -- the line with more bytes
+  -- a line that starts with the bytes xs, with the bytes ys after these, is `textOf (xs ++ ys)`
   pub then-first : (v : Text) (ys : List ℕ) → v ≡ textOf (written u ++ ys) → v ≡ textOf (xs ++ ys)
   then-first = then-known u xs (then-known t [] e u xs f)
 
 -- ---- a line with room
 
 module _ (t : Text) (n : ℕ) (room : Room n t) where
-  -- its count is that of its bytes
+  -- the count of a line with room is that of its bytes
   length-written : length (written t) ≡ t .count
   length-written = ap (λ (u : Text). u .count) (sym (room .0))
 
-  -- 192 bytes are set aside for it
+  -- 192 bytes are set aside for a line with room
   pub length-bytes : length (t .bytes) ≡ 192
   length-bytes = ap (λ (u : Text). length (u .bytes)) (room .0) ∙ simp (length-append, length-replicate) (omega (arith, length-written))
 
-  -- those after its own are zeros
+  -- the bytes set aside after those of a line with room are zeros
   rest-zeros : drop (t .count) (t .bytes) ≡ replicate (192 - t .count) 0
   rest-zeros =
       ap (λ (u : Text). drop (t .count) (u .bytes)) (room .0) ∙ drop-at (written t) _ (t .count) length-written ∙ rw length-written
 
-  -- what further bytes leave of its room
+  -- a line with room for n bytes has room for k after further bytes, where these and k are at most n
   pub room-more : (u : Text) (xs : List ℕ) → u ≡ textOf (written t ++ xs) → (k : ℕ) → length xs + k ≤ n → Room k u
   room-more u xs e k h = room-known u (written t ++ xs) e k (simp length-append (omega (arith, length-written)))
 
--- bytes and bytes after them
+-- a line with bytes added and then further bytes is the line with both added at once
 pub then-more :
     (t u : Text) (xs : List ℕ) → u ≡ textOf (written t ++ xs) → (v : Text) (ys : List ℕ) → v ≡ textOf (written u ++ ys)
     → v ≡ textOf (written t ++ (xs ++ ys))

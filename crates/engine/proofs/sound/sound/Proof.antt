@@ -17,7 +17,7 @@ use Rattle.engine.proofs.sound.sound.Tie as tie
 abbrev bounds : Held → Bool
 bounds h = leb 1 (h .n) && leb (h .n) 8 && ltb (h .readings) (h .budget) && soundCounts (h .budget) (h .counts) && leb (h .budget) maxBudget && soundRule (h .rule)
 
--- their outcome
+-- the outcome of the tests before that of the phase
 six : (c : tie.Joined5) → c .if5 .if6 ≡ bounds (c .before .before .before .before .before .before .before .args .h)
 six c =
     let two = and-found refl (c .before .before .before .before .if1 .came) (λ w. (le-leb _ _ (w .0 .taken), w .2)) (λ w. (lt-leb _ _ (w .0 .left), w .1)) in

@@ -21,19 +21,19 @@ use Rattle.tune_text.proofs.fields.read_number.Tie as tie
 -- ---- the form of a field
 
 module _ (f : Form) (xs : List ℕ) where
-  -- it has too few bytes
+  -- a field with fewer bytes than the form asks does not have the form
   short : length xs < f .least → isNumber f xs ≡ false
   short h = rw (lt-leb (f .least) (length xs) h)
 
-  -- it has too many
+  -- a field with more bytes than the form allows does not have the form
   long : f .most < length xs → isNumber f xs ≡ false
   long h = rw (lt-leb (length xs) (f .most) h, and-false (leb (f .least) (length xs)))
 
-  -- one of them is no digit
+  -- a field with a byte that is no digit does not have the form
   others : allDigits (f .base) xs ≡ false → isNumber f xs ≡ false
   others e = rw (e, and-false (leb (f .least) (length xs) && leb (length xs) (f .most)))
 
-  -- it has the form
+  -- a field of digits, neither too few nor too many for the form, has the form
   right : f .least ≤ length xs → length xs ≤ f .most → allDigits (f .base) xs ≡ true → isNumber f xs ≡ true
   right h k e = rw (le-leb (f .least) (length xs) h, le-leb (length xs) (f .most) k, e)
 
@@ -52,11 +52,11 @@ Inv-loop field base least most malformed value₀ i₀ value i = Reading base fi
 abbrev μ-loop : tie.MeasureT-loop
 μ-loop field base least most malformed value₀ i₀ value i = length field - i
 
--- a number of i digits and one more digit
+-- a number of at most i digits with one more digit has at most i + 1 digits
 more : (base v i d : ℕ) → v < base ^ i → d < base → v * base + d < base ^ (i + 1)
 more base v i d l k = rw (add-one, pow-suc) (omega (arith, mul-le-mul-right base l, suc-mul v base))
 
--- it fits where that many digits do
+-- a number of at most i digits with one more digit fits 64 bits, where i is below `most` and numbers of `most` digits fit
 more-fits : (base v i d most : ℕ) → v < base ^ i → d < base → i < most → base ^ most ≤ 2 ^ 64 → v * base + d < 2 ^ 64
 more-fits base v i d most l k m f =
     let pos : 0 < base = omega arith in
@@ -64,7 +64,7 @@ more-fits base v i d most l k m f =
     omega (arith, more base v i d l k, pow-le-pow-right pos h)
 
 module _ (base : ℕ) (xs : List ℕ) (v i : ℕ) (r : Reading base xs v i) where
-  -- after the last byte
+  -- after the last byte the field is all digits, and v is its number
   reads-all : length xs ≤ i → (allDigits base xs ≡ true) × (reading base 0 xs ≡ v)
   unfolding allDigits reading
   reads-all h =
@@ -81,11 +81,11 @@ module _ (base : ℕ) (xs : List ℕ) (v i : ℕ) (r : Reading base xs v i) wher
     unfolding reading
     number-from = rw (add-one, drop-cons xs i 0, e)
 
-    -- it is none in this base
+    -- where byte i is no digit in this base, the field is not all digits
     reads-other : base ≤ d → allDigits base xs ≡ false
     reads-other k = r .digits ∙ digits-from ∙ rw (le-ltb d base k)
 
-    -- it is one
+    -- where byte i is the digit d in this base, the first i + 1 bytes are digits, and v * base + d is their number
     reads-more : d < base → Reading base xs (v * base + d) (i + 1)
     reads-more k =
         record {

@@ -24,11 +24,11 @@ use Rattle.tune_text.proofs.fields.read_numbers.Tie as tie
 
 -- ---- what reading a line gives
 
--- a malformed line
+-- what reading a malformed line gives
 abbrev bad : Numbers
 bad = record { well = false; values = replicate 4 0 }
 
--- a line whose first i fields gave the numbers in front, where the fields ps are left
+-- what reading a line gives whose first i fields gave the numbers in front, where the fields ps are left
 outcome : Form → ℕ → ℕ → List ℕ → List (List ℕ) → Numbers
 outcome f k i front ps =
     cond (eqb (i + length ps) k && allNumbers f ps)
@@ -36,23 +36,23 @@ outcome f k i front ps =
     bad
 
 module _ (f : Form) (k : ℕ) where
-  -- all fields are left at first
+  -- reading a line gives the `outcome` of no field read and all fields left
   outcome-first : (line : List ℕ) → numbersRead f k line ≡ outcome f k 0 [] (cut space line)
   unfolding numbersRead isLine outcome
   outcome-first line = rw zero-add
 
   module _ (i : ℕ) (front : List ℕ) where
-    -- a field of another form
+    -- a line with a field of another form is malformed
     outcome-ill : (p : List ℕ) (ps : List (List ℕ)) → isNumber f p ≡ false → outcome f k i front (p ∷ ps) ≡ bad
     unfolding outcome allNumbers
     outcome-ill p ps e = rw (e, and-false (eqb (i + suc (length ps)) k))
 
-    -- too few fields or too many
+    -- a line of too few fields or too many is malformed
     outcome-count : (ps : List (List ℕ)) → (i + length ps ≡ k → ⊥) → outcome f k i front ps ≡ bad
     unfolding outcome
     outcome-count ps h = rw (ne-eqb (i + length ps) k h)
 
-    -- one field more is read
+    -- reading one field more leaves the outcome of the line
     outcome-more : (p : List ℕ) (ps : List (List ℕ)) → isNumber f p ≡ true
         → outcome f k i front (p ∷ ps) ≡ outcome f k (i + 1) (front ++ (fieldValue f p ∷ [])) ps
     unfolding outcome allNumbers
@@ -60,7 +60,7 @@ module _ (f : Form) (k : ℕ) where
         let n : i + suc (length ps) ≡ i + 1 + length ps = omega arith in
         rw (n, e, append-snoc)
 
-    -- no field is left
+    -- where k fields are read and none is left, the outcome is their numbers and zeros
     outcome-none : i ≡ k → outcome f k i front [] ≡ record { well = true; values = front ++ replicate (4 - k) 0 }
     unfolding outcome allNumbers
     outcome-none h =
@@ -83,14 +83,14 @@ Inv-loop line base least most k malformed values₀ from₀ i₀ values from i =
 abbrev μ-loop : tie.MeasureT-loop
 μ-loop line base least most k malformed values₀ from₀ i₀ values from i = k - i
 
--- two truth values that differ
+-- of two truth values that differ, one is true and the other false
 differ : (a b : Bool) → not (Bool·beq a b) ≡ true → ((a ≡ true) × (b ≡ false)) ⊎ ((a ≡ false) × (b ≡ true))
 differ true true e = absurd (false≢true e)
 differ true false e = inl (refl, refl)
 differ false true e = inr (refl, refl)
 differ false false e = absurd (false≢true e)
 
--- two that do not
+-- two truth values that do not differ are equal
 agree : (a b : Bool) → not (Bool·beq a b) ≡ false → a ≡ b
 agree true true e = refl
 agree true false e = absurd (true≢false e)
@@ -117,19 +117,19 @@ module _ (f : Form) (k : ℕ) (line vs : List ℕ) (from i end : ℕ) (n : Numbe
     got : n ≡ numberRead f (take (end - from) (drop from line))
 
   module _ (t : Turn) where
-    -- other fields are left after it
+    -- where the next field ends before the line does, that field and those after it are left
     gives-next : end < length line → numbersRead f k line ≡ outcome f k i (take i vs) (take (end - from) (drop from line) ∷ cut space (drop (end + 1) line))
     gives-next h = t .going .gives (t .more) ∙ ap (outcome f k i (take i vs)) (cut-next space line from end (t .going .within (t .more)) (t .found) h)
 
-    -- no field is left after it
+    -- where the next field ends with the line, that field alone is left
     gives-last : length line ≤ end → numbersRead f k line ≡ outcome f k i (take i vs) (take (end - from) (drop from line) ∷ [])
     gives-last h = t .going .gives (t .more) ∙ ap (outcome f k i (take i vs)) (cut-end space line from end (t .going .within (t .more)) (t .found) h)
 
-    -- n says whether it has the form
+    -- n says whether the next field has the form
     test : isNumber f (take (end - from) (drop from line)) ≡ n .well
     test = sym (number-test f (take (end - from) (drop from line))) ∙ ap (λ (m : Number). m .well) (sym (t .got))
 
-    -- it has another form
+    -- a line whose next field has another form is malformed
     refuses-form : n .well ≡ false → numbersRead f k line ≡ bad
     refuses-form e =
         let p = take (end - from) (drop from line) in
@@ -138,7 +138,7 @@ module _ (f : Form) (k : ℕ) (line vs : List ℕ) (from i end : ℕ) (n : Numbe
         (λ h. gives-next h ∙ outcome-ill f k i (take i vs) p (cut space (drop (end + 1) line)) (test ∙ e))
         (le-or-lt (length line) end)
 
-    -- it is field k and others are left, or it is none such and no other is left
+    -- a line is malformed where fields are left after field k, or none is left after an earlier field
     refuses-count : not (Bool·beq (eqb (i + 1) k) (eqb end (length line))) ≡ true → numbersRead f k line ≡ bad
     refuses-count e =
         let p = take (end - from) (drop from line) in
@@ -153,7 +153,7 @@ module _ (f : Form) (k : ℕ) (line vs : List ℕ) (from i end : ℕ) (n : Numbe
         gives-last h ∙ outcome-count f k i (take i vs) (p ∷ []) (λ q. eqb-false (i + 1) k (w .0) (omega arith)))
         (differ (eqb (i + 1) k) (eqb end (length line)) e)
 
-    -- its number is put to the others
+    -- the number of a next field that is not refused is put after those of the fields before it
     goes-on : n .well ≡ true → not (Bool·beq (eqb (i + 1) k) (eqb end (length line))) ≡ false → k ≤ 4
         → Going f k line (set vs i (n .value)) (end + 1) (i + 1)
     goes-on e d room =

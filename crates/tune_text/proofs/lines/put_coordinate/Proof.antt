@@ -23,11 +23,11 @@ hex-requires c κs = search needs
 short : (c : tie.After-hex) → c .hex .result ≤ 16
 short c = fewest-most 16 16 (c .before .before .bits-of .result) _ 16 (omega arith) (c .hex .ensures .1 .0) (omega arith) (omega arith)
 
--- and no fewer are asked for
+-- the digits that `io::hex` writes are sixteen, as no fewer are asked for
 sixteen : (c : tie.After-hex) → c .hex .result ≡ 16
 sixteen c = omega (arith, short c)
 
--- they are those of the bits
+-- the digits that `io::hex` writes are those of the float's bits
 digits-known : (c : tie.After-hex) → take (c .hex .result) (c .hex .last .1 .1 .0) ≡ digits 16 16 (toBits binary64 (c .before .before .before .args .x))
 digits-known c =
     c .hex .ensures .1 .1
