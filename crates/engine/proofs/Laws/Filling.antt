@@ -37,7 +37,7 @@ pub record Cleared {A : Type 0} (n : ℕ) (z : A) (xs : List A) (i : ℕ) (out :
   pub value : out ≡ take n xs ++ replicate (i - n) z ++ drop i xs
 
 module _ {A : Type 0} (n : ℕ) (z : A) (xs : List A) where
-  -- no record past the first n is overwritten yet
+  -- no place is overwritten with z yet
   pub cleared-none : Cleared n z xs n xs
   cleared-none =
       let none : n - n ≡ 0 = omega arith in
