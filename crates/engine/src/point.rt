@@ -86,24 +86,26 @@ fn coordinate(
     requires { ⌜ (1 ≤ n) × (n ≤ 8) × (a < 8) × Fits n phase ⌝ }
     ensures { λ r. ⌜ r ≡ coordinateBy n x k (now (points .entry)) (now (center .entry)) (now (best .entry)) phase a ⌝ }
 {
+    let first = points[a];
+    let worst = points[8 * n + a];
     match phase {
         Phase::Building(i) => built(x, center[a], i == a + 1),
         Phase::Reflecting => {
             let c = centroid(points, n, a);
-            moved(x, c, k.alpha, c, points[8 * n + a])
+            moved(x, c, k.alpha, c, worst)
         }
         Phase::Expanding(_) => {
             let c = centroid(points, n, a);
-            beyond(x, c, points[8 * n + a], k.alpha, k.chi)
+            beyond(x, c, worst, k.alpha, k.chi)
         }
         Phase::Contracting(side, _) => {
             let c = centroid(points, n, a);
             match side {
-                Side::Outside => beyond(x, c, points[8 * n + a], k.alpha, k.beta),
-                Side::Inside => moved(x, c, k.beta, points[8 * n + a], c),
+                Side::Outside => beyond(x, c, worst, k.alpha, k.beta),
+                Side::Inside => moved(x, c, k.beta, worst, c),
             }
         }
-        Phase::Shrinking(j) => moved(x, points[a], k.sigma, points[8 * j + a], points[a]),
+        Phase::Shrinking(j) => moved(x, first, k.sigma, points[8 * j + a], first),
         Phase::Probing(p) => probed(x, best[a], p, a),
         Phase::Ended(_) => 0.0 / 0.0,
     }
