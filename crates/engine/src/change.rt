@@ -22,11 +22,10 @@ pub(super) fn noted(s: Search, v: Vertex) -> Search
     ensures { λ r. ⌜ r ≡ noted v s ⌝ }
 {
     let mut t = s;
-    let best = s.best;
     t.readings = s.readings + 1;
     if s.readings == 0 {
         t.best = v;
-    } else if v.cost < best.cost {
+    } else if v.cost < s.best.cost {
         t.best = v;
     }
     t
@@ -113,11 +112,8 @@ pub(super) fn is_ended(phase: Phase) -> bool
 pub(super) fn with_phase(s: Search, phase: Phase) -> Search
     ensures { λ r. ⌜ r ≡ withPhase phase s ⌝ }
 {
-    let standing = s.standing;
-    let gathered = s.gathered;
     let center = s.center;
-    let counts = s.counts;
-    changed(s, phase, standing, gathered, center, counts)
+    changed(s, phase, s.standing, s.gathered, center, s.counts)
 }
 
 // The piece goes on in another phase with other vertices gathered, and k readings more open.
@@ -125,11 +121,9 @@ pub(super) fn gathering(s: Search, phase: Phase, gathered: Simplex, k: u64) -> S
     requires { ⌜ (CountsFit (s .counts)) × (k ≤ 1) ⌝ }
     ensures { λ r. ⌜ r ≡ changedTo phase (s .standing) gathered (s .center) (addOpen k (s .counts)) s ⌝ }
 {
-    let standing = s.standing;
     let center = s.center;
-    let before = s.counts;
-    let counts = add_open(before, k);
-    changed(s, phase, standing, gathered, center, counts)
+    let counts = add_open(s.counts, k);
+    changed(s, phase, s.standing, gathered, center, counts)
 }
 
 // The iteration goes on in another phase, with one reading more open.
@@ -137,8 +131,7 @@ pub(super) fn waiting(s: Search, phase: Phase) -> Search
     requires { ⌜ CountsFit (s .counts) ⌝ }
     ensures { λ r. ⌜ r ≡ waiting phase 1 s ⌝ }
 {
-    let gathered = s.gathered;
-    gathering(s, phase, gathered, 1)
+    gathering(s, phase, s.gathered, 1)
 }
 
 // The phase after a piece: a probe round where the rule is met, else the next iteration.
@@ -158,8 +151,7 @@ pub(super) fn finish(s: Search, piece: Piece, met: bool, standing: Simplex) -> S
     ensures { λ r. ⌜ r ≡ changedTo (testedPhase met) standing (pack []) (s .center) (counted (pieceOf piece) (s .counts)) s ⌝ }
 {
     let phase = tested_phase(met);
-    let before = s.counts;
-    let counts = counted(piece, before);
+    let counts = counted(piece, s.counts);
     let gathered = blank();
     let center = s.center;
     changed(s, phase, standing, gathered, center, counts)

@@ -8,7 +8,7 @@ use rules::Vertex;
 ghost use mathlib.Core.Path.{_≡_};
 ghost use Prim.Native.Nat.{_≤_};
 ghost use Rattle.rules.specs.Accept.{better, winsExpanded, reflectedVertex, wins};
-ghost use Rattle.engine.specs.Decide.{rowOf, sideOf, decisionIn, keptIn};
+ghost use Rattle.engine.specs.Decide.{rowBy, rowOf, sideOf, decisionIn, keptIn};
 
 // What an iteration's reading decides by the table, or what another phase's reading is for.
 pub(super) enum Decision {
@@ -21,18 +21,10 @@ pub(super) enum Decision {
     Nothing,
 }
 
-// r told: the four rows of the table.
-fn reflected_on(s: Search, cost: u64) -> Decision
-    requires { ⌜ (1 ≤ s .setup .n) × (s .setup .n ≤ 8) ⌝ }
-    ensures { λ r. ⌜ r ≡ rowOf cost s ⌝ }
+// The row of the table for r's cost, f1, fn and fn+1 being the costs at places 1, n and n + 1.
+fn row(cost: u64, first: u64, last: u64, worst: u64) -> Decision
+    ensures { λ r. ⌜ r ≡ rowBy cost first last worst ⌝ }
 {
-    let setup = s.setup;
-    let n = setup.n;
-    let standing = s.standing;
-    let costs = standing.costs;
-    let first = costs[0];
-    let last = costs[n - 1];
-    let worst = costs[n];
     if cost < first {
         Decision::Wait(Phase::Expanding(cost))
     } else if cost < last {
@@ -44,15 +36,23 @@ fn reflected_on(s: Search, cost: u64) -> Decision
     }
 }
 
+// r told: the four rows of the table.
+fn reflected_on(s: Search, cost: u64) -> Decision
+    requires { ⌜ (1 ≤ s .setup .n) × (s .setup .n ≤ 8) ⌝ }
+    ensures { λ r. ⌜ r ≡ rowOf cost s ⌝ }
+{
+    let n = s.setup.n;
+    let places = s.standing;
+    row(cost, places.costs[0], places.costs[n - 1], places.costs[n])
+}
+
 // The outside or inside point told: it is taken, or a shrink begins.
 fn contracted_on(s: Search, side: Side, fr: u64, fc: u64) -> Decision
     requires { ⌜ s .setup .n ≤ 8 ⌝ }
     ensures { λ r. ⌜ r ≡ sideOf (wins side fr fc s) ⌝ }
 {
-    let setup = s.setup;
-    let n = setup.n;
-    let standing = s.standing;
-    let costs = standing.costs;
+    let n = s.setup.n;
+    let costs = s.standing.costs;
     let wins = match side {
         Side::Outside => fc <= fr,
         Side::Inside => fc < costs[n],

@@ -66,14 +66,11 @@ pub fn ask(search: Search) -> Asked
     let verdict = sound::ask_verdict(search);
     match verdict {
         Verdict::Accepted => {
-            let setup = search.setup;
-            let standing = search.standing;
-            let points = standing.points;
+            let points = search.standing.points;
             let center = search.center;
-            let known = search.best;
-            let best = known.point;
+            let best = search.best.point;
             let phase = search.phase;
-            let point = point::trial(setup, &points, &center, &best, phase);
+            let point = point::trial(search.setup, &points, &center, &best, phase);
             Asked {
                 verdict: Verdict::Accepted,
                 number: search.readings + 1,
@@ -109,13 +106,11 @@ pub fn best(search: Search) -> Shown
     let verdict = sound::best_verdict(search);
     match verdict {
         Verdict::Accepted => {
-            let setup = search.setup;
-            let known = search.best;
-            let known_point = known.point;
-            let point = point::shown(setup.n, known_point);
+            let known = search.best.point;
+            let point = point::shown(search.setup.n, known);
             let reading = Vertex {
                 point,
-                cost: known.cost,
+                cost: search.best.cost,
             };
             Shown {
                 verdict: Verdict::Accepted,

@@ -140,13 +140,10 @@ pub(super) fn trial_in(search: Search, phase: Phase) -> [f64; 8]
     requires { ⌜ (1 ≤ search .setup .n) × (search .setup .n ≤ 8) × Fits (search .setup .n) phase ⌝ }
     ensures { λ r. ⌜ r ≡ point (search .setup .n) (asked search phase) ⌝ }
 {
-    let setup = search.setup;
-    let standing = search.standing;
-    let points = standing.points;
+    let points = search.standing.points;
     let center = search.center;
-    let known = search.best;
-    let best = known.point;
-    trial(setup, &points, &center, &best, phase)
+    let best = search.best.point;
+    trial(search.setup, &points, &center, &best, phase)
 }
 
 // The first n coordinates of a point, zero after them.

@@ -121,11 +121,8 @@ fn held_by(s: Search) -> Held
     let rule = setup.rule;
     let phase = s.phase;
     let counts = s.counts;
-    let standing = s.standing;
-    let gathered = s.gathered;
-    let best = s.best;
-    let costs = standing.costs;
-    let others = gathered.costs;
+    let costs = s.standing.costs;
+    let others = s.gathered.costs;
     Held {
         n: setup.n,
         budget: setup.budget,
@@ -135,7 +132,7 @@ fn held_by(s: Search) -> Held
         readings: s.readings,
         costs,
         others,
-        best: best.cost,
+        best: s.best.cost,
     }
 }
 
@@ -144,11 +141,10 @@ fn sound_held(h: Held) -> bool
     requires { ⌜ (h .n ≤ 8) × (gatheredIn (h .phase) ≤ 9) ⌝ }
     ensures { λ r. ⌜ r ≡ soundHeld h ⌝ }
 {
-    let counts = h.counts;
     let phase = h.phase;
     let costs = h.costs;
     let others = h.others;
-    (counts.builds == 0 || in_order(costs, h.n + 1))
+    (h.counts.builds == 0 || in_order(costs, h.n + 1))
         && in_order(others, gathered_in(phase))
         && all_costs(costs)
         && all_costs(others)
@@ -159,16 +155,15 @@ fn sound_held(h: Held) -> bool
 fn sound(h: Held) -> bool
     ensures { λ r. ⌜ r ≡ soundBy h ⌝ }
 {
-    let counts = h.counts;
     let phase = h.phase;
     let rule = h.rule;
     1 <= h.n
         && h.n <= 8
         && h.readings < h.budget
-        && sound_counts(h.budget, counts)
+        && sound_counts(h.budget, h.counts)
         && h.budget <= MAX_BUDGET
         && sound_rule(rule)
-        && sound_phase(h.n, counts.builds, phase)
+        && sound_phase(h.n, h.counts.builds, phase)
         && sound_held(h)
 }
 

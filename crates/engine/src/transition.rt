@@ -1,5 +1,4 @@
 // The search after an accepted reading: what was decided is done, then the budget is tested.
-use super::change::changed;
 use super::change::finish;
 use super::change::gathering;
 use super::change::is_ended;
@@ -43,12 +42,11 @@ fn taken(s: Search, piece: Piece, v: Vertex) -> Search
 {
     let setup = s.setup;
     let n = setup.n;
-    let standing = s.standing;
-    let points = standing.points;
+    let points = s.standing.points;
     let old = point_at(&points, n);
     let new = v.point;
     let movement = distance(&old, &new, 0.0, n);
-    let next = inserted(standing, n, v);
+    let next = inserted(s.standing, n, v);
     let rule = setup.rule;
     let met = met(rule, n, piece, movement, next);
     finish(s, piece, met, next)
@@ -66,16 +64,14 @@ fn built_on(s: Search, i: usize, v: Vertex) -> Search
     requires { ⌜ (Ready s) × (i ≤ s .setup .n) × (v .cost ≤ maxCost) ⌝ }
     ensures { λ r. ⌜ r ≡ builtOn i v s ⌝ }
 {
-    let setup = s.setup;
-    let before = s.gathered;
-    let gathered = inserted(before, i, v);
-    if i == setup.n {
+    let gathered = inserted(s.gathered, i, v);
+    if i == s.setup.n {
+        let setup = s.setup;
         let rule = setup.rule;
         let met = met(rule, setup.n, Piece::Build, 0.0, gathered);
         finish(s, Piece::Build, met, gathered)
     } else {
-        let known = s.counts;
-        let k = first_open(known.builds, i);
+        let k = first_open(s.counts.builds, i);
         gathering(s, Phase::Building(i + 1), gathered, k)
     }
 }
@@ -85,9 +81,8 @@ fn shrinking(s: Search) -> Search
     requires { ⌜ Ready s ⌝ }
     ensures { λ r. ⌜ r ≡ shrinking s ⌝ }
 {
-    let standing = s.standing;
-    let points = standing.points;
-    let costs = standing.costs;
+    let points = s.standing.points;
+    let costs = s.standing.costs;
     let first = place_at(&points, &costs, 0);
     let gathered = inserted(blank(), 0, first);
     gathering(s, Phase::Shrinking(1), gathered, 1)
@@ -98,10 +93,8 @@ fn shrink_movement(s: Search) -> f64
     requires { ⌜ (1 ≤ s .setup .n) × (s .setup .n ≤ 8) ⌝ }
     ensures { λ r. ⌜ r ≡ movement (s .setup .n) (map pointOf (drop 1 (unpack (s .setup .n + 1) (s .standing)))) (shrunkPoints s) 0ᶠ ⌝ }
 {
-    let setup = s.setup;
-    let n = setup.n;
-    let standing = s.standing;
-    let points = standing.points;
+    let n = s.setup.n;
+    let points = s.standing.points;
     let mut sum = 0.0;
     let mut k = 0;
     while k < n {
@@ -119,10 +112,9 @@ fn shrunk_on(s: Search, j: usize, v: Vertex) -> Search
     requires { ⌜ (Ready s) × (j ≤ s .setup .n) × (v .cost ≤ maxCost) ⌝ }
     ensures { λ r. ⌜ r ≡ shrunkOn j v s ⌝ }
 {
-    let setup = s.setup;
-    let before = s.gathered;
-    let gathered = inserted(before, j, v);
-    if j == setup.n {
+    let gathered = inserted(s.gathered, j, v);
+    if j == s.setup.n {
+        let setup = s.setup;
         let rule = setup.rule;
         let met = met(rule, setup.n, Piece::Shrink, shrink_movement(s), gathered);
         finish(s, Piece::Shrink, met, gathered)
@@ -137,27 +129,17 @@ fn probed_on(s: Search, p: usize, b: u64, v: Vertex) -> Search
     requires { ⌜ (Ready s) × (p < 1000) ⌝ }
     ensures { λ r. ⌜ r ≡ probedOn p b v s ⌝ }
 {
-    let setup = s.setup;
-    let standing = s.standing;
-    let center = s.center;
-    let gathered = s.gathered;
-    let known = s.counts;
-    let counts = probed_once(known);
+    let mut t = s;
+    t.counts = probed_once(s.counts);
     if v.cost < b {
         let around = v.point;
-        let first = inserted(blank(), 0, v);
-        changed(s, Phase::Building(1), standing, first, around, counts)
-    } else if p + 1 == 2 * setup.n {
-        changed(
-            s,
-            Phase::Ended(Cause::Settled),
-            standing,
-            gathered,
-            center,
-            counts,
-        )
+        t.gathered = inserted(blank(), 0, v);
+        t.center = around;
+        with_phase(t, Phase::Building(1))
+    } else if p + 1 == 2 * s.setup.n {
+        with_phase(t, Phase::Ended(Cause::Settled))
     } else {
-        changed(s, Phase::Probing(p + 1), standing, gathered, center, counts)
+        with_phase(t, Phase::Probing(p + 1))
     }
 }
 
@@ -206,9 +188,8 @@ fn spent(readings: u64, budget: u64, phase: Phase) -> Phase
 fn budgeted(s: Search) -> Search
     ensures { λ r. ⌜ r ≡ budgeted s ⌝ }
 {
-    let setup = s.setup;
     let phase = s.phase;
-    let last = spent(s.readings, setup.budget, phase);
+    let last = spent(s.readings, s.setup.budget, phase);
     with_phase(s, last)
 }
 
@@ -218,10 +199,9 @@ pub(super) fn accept(s: Search, cost: u64) -> Search
     ensures { λ r. ⌜ r ≡ accept s cost ⌝ }
 {
     let phase = s.phase;
-    let best = s.best;
     let point = trial_in(s, phase);
     let v = Vertex { point, cost };
     let after = noted(s, v);
-    let next = advanced(after, phase, best.cost, v);
+    let next = advanced(after, phase, s.best.cost, v);
     budgeted(next)
 }

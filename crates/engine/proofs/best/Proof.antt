@@ -21,7 +21,7 @@ refused-best-requires c κs = search needs
 
 returns : tie.Need-returns
 unfolding showing
-returns c = rw (← c .before .before .before .before .before .before .best-verdict .ensures, c .before .before .before .before .enum-told .given .1, c .shown .ensures)
+returns c = rw (← c .before .before .before .before .best-verdict .ensures, c .before .before .enum-told .given .1, c .shown .ensures)
 
 returns-2 : tie.Need-returns-2
 unfolding showing

@@ -16,7 +16,7 @@ changed-requires : tie.Need-changed-requires
 changed-requires c κs = search needs
 
 returns : tie.Need-returns
-returns c = rw (← c .before .before .before .before .before .tested-phase .ensures, ← c .before .before .before .counted .ensures, ← c .before .before .blank .ensures) (c .changed .ensures)
+returns c = rw (← c .before .before .before .before .tested-phase .ensures, ← c .before .before .before .counted .ensures, ← c .before .before .blank .ensures) (c .changed .ensures)
 
 pub finish-spec : {M : Type 1} → statement M
 finish-spec =

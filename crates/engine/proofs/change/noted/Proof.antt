@@ -9,17 +9,17 @@ add-t c = search needs
 
 returns : tie.Need-returns
 returns c =
-    let a = c .before .before .before .before .args in
+    let a = c .before .before .before .args in
     rw (best-first (a .s .readings) (a .v) (a .s .best) (c .if1 .taken))
 
 returns-2 : tie.Need-returns-2
 returns-2 c =
-    let a = c .before .before .before .before .before .before .before .args in
+    let a = c .before .before .before .before .before .before .args in
     rw (best-lower (a .s .readings) (a .v) (a .s .best) (c .before .before .before .if1 .left) (c .if2 .taken))
 
 returns-3 : tie.Need-returns-3
 returns-3 c =
-    let a = c .before .before .before .before .before .before .before .args in
+    let a = c .before .before .before .before .before .before .args in
     rw (best-stays (a .s .readings) (a .v) (a .s .best) (c .before .before .before .if1 .left) (c .if2 .left))
 
 pub noted-spec : {M : Type 1} → statement M

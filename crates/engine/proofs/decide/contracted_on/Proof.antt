@@ -7,7 +7,7 @@ use Rattle.engine.proofs.decide.contracted_on.Statement.{statement}
 use Rattle.engine.proofs.decide.contracted_on.Tie as tie
 
 -- past the match, what was found is whether the point wins on its side
-found : (c : tie.At-match-came) → c .match .wins ≡ wins (c .before .before .before .before .args .side) (c .before .before .before .before .args .fr) (c .before .before .before .before .args .fc) (c .before .before .before .before .args .s)
+found : (c : tie.At-match-came) → c .match .wins ≡ wins (c .before .before .args .side) (c .before .before .args .fr) (c .before .before .args .fc) (c .before .before .args .s)
 found c = ⊎-elim (λ w. rw (w .1 .given .1) (w .2)) (λ w. rw (w .1 .given .1) (w .2)) (c .match .came)
 
 enum-told : tie.Need-enum-told

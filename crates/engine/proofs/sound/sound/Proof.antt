@@ -18,7 +18,7 @@ abbrev bounds : Held → Bool
 bounds h = leb 1 (h .n) && leb (h .n) 8 && ltb (h .readings) (h .budget) && soundCounts (h .budget) (h .counts) && leb (h .budget) maxBudget && soundRule (h .rule)
 
 -- the outcome of the tests before that of the phase
-six : (c : tie.Joined5) → c .if5 .if6 ≡ bounds (c .before .before .before .before .before .before .before .args .h)
+six : (c : tie.Joined5) → c .if5 .if6 ≡ bounds (c .before .before .before .before .before .before .args .h)
 six c =
     let two = and-found refl (c .before .before .before .before .if1 .came) (λ w. (le-leb _ _ (w .0 .taken), w .2)) (λ w. (lt-leb _ _ (w .0 .left), w .1)) in
     let three = and-found two (c .before .before .before .if2 .came) (λ w. (w .0 .taken, w .2)) (λ w. (w .0 .left, w .1)) in
@@ -27,7 +27,7 @@ six c =
     and-found five (c .if5 .came) (λ w. (w .0 .taken, w .2 ∙ w .1 .ensures)) (λ w. (w .0 .left, w .1))
 
 -- the outcome with that of the phase
-seven : (c : tie.Joined6) → let h = c .before .before .before .before .before .before .before .before .args .h in c .if6 .if7 ≡ (bounds h && soundPhase (h .n) (h .counts .builds) (h .phase))
+seven : (c : tie.Joined6) → let h = c .before .before .before .before .before .before .before .args .h in c .if6 .if7 ≡ (bounds h && soundPhase (h .n) (h .counts .builds) (h .phase))
 seven c = and-found (six (c .before)) (c .if6 .came) (λ w. (w .0 .taken, w .2 ∙ w .1 .ensures)) (λ w. (w .0 .left, w .1))
 
 sound-counts-requires : tie.Need-sound-counts-requires
@@ -41,7 +41,7 @@ sound-phase-requires c κs = let k = simp and-eq-true-iff at (sym (six (c .befor
 
 sound-held-requires : tie.Need-sound-held-requires
 sound-held-requires c κs =
-    let h = c .before .before .before .before .before .before .before .before .before .args .h in
+    let h = c .before .before .before .before .before .before .before .before .args .h in
     let k = simp and-eq-true-iff at (sym (seven (c .before)) ∙ c .if7 .taken) in
     let n = leb-true (h .n) 8 (k .0 .0 .0 .0 .0 .1) in
     (n, omega (arith, n, gathered-most (h .n) (h .phase) (phase-fits (h .n) (h .counts .builds) (h .phase) (k .1))))

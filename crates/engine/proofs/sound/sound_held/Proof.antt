@@ -32,7 +32,7 @@ all-costs-requires-2 : tie.Need-all-costs-requires-2
 all-costs-requires-2 c κs = search needs
 
 -- the outcome of the first test: no vertex stands before the first build has ended
-first : (c : tie.Joined1) → let h = c .before .before .before .before .before .args .h in
+first : (c : tie.Joined1) → let h = c .before .before .before .before .args .h in
     c .if1 .if2 ≡ inOrder (cond (eqb (h .counts .builds) 0) [] (placesOf (h .n + 1) (h .costs)))
 unfolding inOrder
 first c =
@@ -42,11 +42,11 @@ first c =
     (c .if1 .came)
 
 -- the outcome of the first four tests
-four : (c : tie.Joined4) → let h = c .before .before .before .before .before .before .before .before .args .h in
+four : (c : tie.Joined4) → let h = c .before .before .before .before .before .before .before .args .h in
     c .if4 .if5
     ≡ (inOrder (cond (eqb (h .counts .builds) 0) [] (placesOf (h .n + 1) (h .costs))) && inOrder (placesOf (gatheredIn (h .phase)) (h .others)) && allCosts (h .costs) && allCosts (h .others))
 four c =
-    let h = c .before .before .before .before .before .before .before .before .args .h in
+    let h = c .before .before .before .before .before .before .before .args .h in
     let two = and-found (first (c .before .before .before)) (c .before .before .if2 .came) (λ w. (w .0 .taken, w .3 ∙ w .2 .ensures ∙ ap (λ (k : ℕ). inOrder (placesOf k (h .others))) (w .1 .ensures))) (λ w. (w .0 .left, w .1)) in
     let three = and-found two (c .before .if3 .came) (λ w. (w .0 .taken, w .2 ∙ w .1 .ensures)) (λ w. (w .0 .left, w .1)) in
     and-found three (c .if4 .came) (λ w. (w .0 .taken, w .2 ∙ w .1 .ensures)) (λ w. (w .0 .left, w .1))

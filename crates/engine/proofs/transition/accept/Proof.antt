@@ -13,7 +13,7 @@ noted-requires : tie.Need-noted-requires
 noted-requires c κs = search needs
 
 advanced-requires : tie.Need-advanced-requires
-advanced-requires c κs = rw (c .noted .ensures) (ready-noted (c .before .before .before .args .s) _ (c .before .before .before .pre .0), c .before .before .before .pre .2, c .before .before .before .pre .3)
+advanced-requires c κs = rw (c .noted .ensures) (ready-noted (c .before .before .args .s) _ (c .before .before .pre .0), c .before .before .pre .2, c .before .before .pre .3)
 
 budgeted-requires : tie.Need-budgeted-requires
 budgeted-requires c κs = search needs

@@ -15,8 +15,8 @@ blank-requires c κs = search needs
 inserted-requires : tie.Need-inserted-requires
 inserted-requires c κs = search needs
 
-changed-requires : tie.Need-changed-requires
-changed-requires c κs = search needs
+with-phase-requires : tie.Need-with-phase-requires
+with-phase-requires c κs = search needs
 
 add-if2 : tie.Need-add-if2
 add-if2 c = search needs
@@ -24,26 +24,26 @@ add-if2 c = search needs
 mul-if2 : tie.Need-mul-if2
 mul-if2 c = search needs
 
-changed-requires-2 : tie.Need-changed-requires-2
-changed-requires-2 c κs = search needs
+with-phase-requires-2 : tie.Need-with-phase-requires-2
+with-phase-requires-2 c κs = search needs
 
-add-t23 : tie.Need-add-t23
-add-t23 c = search needs
+add-t17 : tie.Need-add-t17
+add-t17 c = search needs
 
-changed-requires-3 : tie.Need-changed-requires-3
-changed-requires-3 c κs = search needs
+with-phase-requires-3 : tie.Need-with-phase-requires-3
+with-phase-requires-3 c κs = search needs
 
 returns : tie.Need-returns
 unfolding probedOn unpack upTo insert
-returns c = rw (lt-ltb _ _ (c .before .before .before .before .if1 .taken), ← c .before .inserted .ensures, ← c .before .before .before .before .before .before .probed-once .ensures) (c .changed .ensures)
+returns c = rw (lt-ltb _ _ (c .before .before .before .before .if1 .taken), ← c .before .inserted .ensures, ← c .before .before .before .before .before .before .probed-once .ensures) (c .with-phase .ensures)
 
 returns-2 : tie.Need-returns-2
 unfolding probedOn
-returns-2 c = rw (le-ltb _ _ (c .before .before .before .if1 .left), eq-eqb _ _ (c .before .if2 .taken), ← c .before .before .before .before .before .probed-once .ensures) (c .changed2 .ensures)
+returns-2 c = rw (le-ltb _ _ (c .before .before .before .if1 .left), eq-eqb _ _ (c .before .if2 .taken), ← c .before .before .before .before .before .probed-once .ensures) (c .with-phase2 .ensures)
 
 returns-3 : tie.Need-returns-3
 unfolding probedOn
-returns-3 c = rw (le-ltb _ _ (c .before .before .before .if1 .left), ne-eqb _ _ (c .before .if2 .left), ← c .before .before .before .before .before .probed-once .ensures) (c .changed3 .ensures)
+returns-3 c = rw (le-ltb _ _ (c .before .before .before .if1 .left), ne-eqb _ _ (c .before .if2 .left), ← c .before .before .before .before .before .probed-once .ensures) (c .with-phase3 .ensures)
 
 pub probed-on-spec : {M : Type 1} → statement M
 probed-on-spec =
@@ -52,12 +52,12 @@ probed-on-spec =
     probed-once-requires
     blank-requires
     inserted-requires
-    changed-requires
+    with-phase-requires
     add-if2
     mul-if2
-    changed-requires-2
-    add-t23
-    changed-requires-3
+    with-phase-requires-2
+    add-t17
+    with-phase-requires-3
     returns
     returns-2
     returns-3)

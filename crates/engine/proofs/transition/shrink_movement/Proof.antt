@@ -47,7 +47,7 @@ loop-again : tie.Need-loop-again Inv-loop μ-loop
 unfolding upTo
 loop-again c =
     let at = c .before .before .before .before .before .before .before in
-    let s = at .before .before .before .before .args .s in
+    let s = at .before .before .args .s in
     let n = s .setup .n in
     let k = at .loop .k in
     let f : ℕ → List Float = λ j. place (s .standing) (suc j) .point in
@@ -58,7 +58,7 @@ loop-again c =
 returns : tie.Need-returns Inv-loop μ-loop
 returns c =
     let at = c .before in
-    let s = at .before .before .before .before .args .s in
+    let s = at .before .before .args .s in
     let last : at .loop .k ≡ s .setup .n = omega arith in
     rw (rest-points (s .standing) (s .setup .n)) (at .loop .inv .3 ∙ rw last)
 

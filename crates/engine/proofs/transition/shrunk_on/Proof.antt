@@ -20,16 +20,16 @@ shrink-movement-requires c κs = search needs
 
 met-requires : tie.Need-met-requires
 met-requires c κs =
-    let at = c .before .before .before .before .before .before in
+    let at = c .before .before .before .before .before in
     let a = at .args in
-    let w = c .before .before .before .inserted in
+    let w = c .before .before .before .before .inserted in
     (at .pre .0 .high, at .pre .0 .rule, capped-with (a .s .gathered) (w .result) (a .j) (a .v) (w .ensures) (at .pre .2) (at .pre .0 .gathered))
 
 finish-requires : tie.Need-finish-requires
 finish-requires c κs = search needs
 
-add-t13 : tie.Need-add-t13
-add-t13 c = search needs
+add-t12 : tie.Need-add-t12
+add-t12 c = search needs
 
 gathering-requires : tie.Need-gathering-requires
 gathering-requires c κs = search needs
@@ -37,12 +37,12 @@ gathering-requires c κs = search needs
 returns : tie.Need-returns
 unfolding shrunkOn
 returns c =
-    let at = c .before .before .before .before .before .before .before .before in
+    let at = c .before .before .before .before .before .before .before in
     let a = at .args in
     let s = a .s in
-    let w = c .before .before .before .before .before .inserted in
+    let w = c .before .before .before .before .before .before .inserted in
     let moved = c .before .before .shrink-movement in
-    let last = c .before .before .before .if1 .taken in
+    let last = c .before .before .before .before .if1 .taken in
     let long : length (s .gathered .points) ≡ 72 = search (needs, at .good .0 .1 .1 .1 .1 .1 .0) in
     let eight : length (a .v .point) ≡ 8 = search (needs, at .good .1 .1 .0) in
     rw (eq-eqb (a .j) (s .setup .n) last, ← finished-with (s .gathered) (w .result) (a .j) (a .v) (w .ensures) Shrink s (moved .result) (map pointOf (drop 1 (unpack (s .setup .n + 1) (s .standing)))) (shrunkPoints s) last (at .pre .0 .high) long eight (moved .ensures), ← c .before .met .ensures) (c .finish .ensures)
@@ -50,7 +50,7 @@ returns c =
 returns-2 : tie.Need-returns-2
 unfolding shrunkOn
 returns-2 c =
-    let a = c .before .before .before .before .before .before .args in
+    let a = c .before .before .before .before .args in
     rw (ne-eqb (a .j) (a .s .setup .n) (c .before .if1 .left), ← c .before .before .before .inserted .ensures) (c .gathering .ensures)
 
 pub shrunk-on-spec : {M : Type 1} → statement M
@@ -61,7 +61,7 @@ shrunk-on-spec =
     shrink-movement-requires
     met-requires
     finish-requires
-    add-t13
+    add-t12
     gathering-requires
     returns
     returns-2)

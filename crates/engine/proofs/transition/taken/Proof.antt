@@ -21,7 +21,7 @@ inserted-requires c κs = search needs
 
 met-requires : tie.Need-met-requires
 met-requires c κs =
-    let at = c .before .before .before .before .before .before .before .before .before .before in
+    let at = c .before .before .before .before .before .before .before .before .before in
     let a = at .args in
     let w = c .inserted in
     (at .pre .0 .high, at .pre .0 .rule, capped-with (a .s .standing) (w .result) (a .s .setup .n) (a .v) (w .ensures) (at .pre .1) (at .pre .0 .standing))
@@ -32,7 +32,7 @@ finish-requires c κs = search needs
 returns : tie.Need-returns
 unfolding taken movement
 returns c =
-    let at = c .before .before .before .before .before .before .before .before .before .before .before .before in
+    let at = c .before .before .before .before .before .before .before .before .before .before .before in
     let a = at .args in
     let s = a .s in
     let w = c .before .before .inserted in
