@@ -135,13 +135,16 @@ pub(super) fn met(rule: Rule, n: usize, piece: Piece, movement: f64, s: Simplex)
 {
     match rule {
         Rule::Spread(e) => spread_met(s, n, e),
-        Rule::Moved(e) => match piece {
-            Piece::Build => false,
-            Piece::Reflection => movement < e * whole(n),
-            Piece::Expansion => movement < e * whole(n),
-            Piece::Contraction => movement < e * whole(n),
-            Piece::Shrink => movement < e * whole(n),
-        },
+        Rule::Moved(e) => {
+            let limit = e * whole(n);
+            match piece {
+                Piece::Build => false,
+                Piece::Reflection => movement < limit,
+                Piece::Expansion => movement < limit,
+                Piece::Contraction => movement < limit,
+                Piece::Shrink => movement < limit,
+            }
+        }
         Rule::Size(e) => size_met(s, n, e),
     }
 }

@@ -17,32 +17,23 @@ spread-met-requires c κs =
 enum-known-rule-2 : tie.Need-enum-known-rule-2
 enum-known-rule-2 c = search needs
 
+whole-requires : tie.Need-whole-requires
+whole-requires c κs = search needs
+
 enum-told : tie.Need-enum-told
 enum-told c = search needs
 
 enum-told-2 : tie.Need-enum-told-2
 enum-told-2 c = search needs
 
-whole-requires : tie.Need-whole-requires
-whole-requires c κs = search needs
-
 enum-told-3 : tie.Need-enum-told-3
 enum-told-3 c = search needs
-
-whole-requires-2 : tie.Need-whole-requires-2
-whole-requires-2 c κs = search needs
 
 enum-told-4 : tie.Need-enum-told-4
 enum-told-4 c = search needs
 
-whole-requires-3 : tie.Need-whole-requires-3
-whole-requires-3 c κs = search needs
-
 enum-told-5 : tie.Need-enum-told-5
 enum-told-5 c = search needs
-
-whole-requires-4 : tie.Need-whole-requires-4
-whole-requires-4 c κs = search needs
 
 enum-known-rule-3 : tie.Need-enum-known-rule-3
 enum-known-rule-3 c = search needs
@@ -56,23 +47,23 @@ returns c = rw (c .before .before .rule .given .1, c .spread-met .ensures)
 
 returns-2 : tie.Need-returns-2
 unfolding metBy
-returns-2 c = rw (c .before .before .before .rule2 .given .1, c .enum-told .given .1)
+returns-2 c = rw (c .before .before .before .before .rule2 .given .1, c .enum-told .given .1)
 
 returns-3 : tie.Need-returns-3
 unfolding metBy
-returns-3 c = rw (c .before .before .before .before .rule2 .given .1, c .before .enum-told2 .given .1, c .whole .ensures)
+returns-3 c = rw (c .before .before .before .before .rule2 .given .1, c .enum-told2 .given .1, c .before .before .whole .ensures)
 
 returns-4 : tie.Need-returns-4
 unfolding metBy
-returns-4 c = rw (c .before .before .before .before .rule2 .given .1, c .before .enum-told3 .given .1, c .whole2 .ensures)
+returns-4 c = rw (c .before .before .before .before .rule2 .given .1, c .enum-told3 .given .1, c .before .before .whole .ensures)
 
 returns-5 : tie.Need-returns-5
 unfolding metBy
-returns-5 c = rw (c .before .before .before .before .rule2 .given .1, c .before .enum-told4 .given .1, c .whole3 .ensures)
+returns-5 c = rw (c .before .before .before .before .rule2 .given .1, c .enum-told4 .given .1, c .before .before .whole .ensures)
 
 returns-6 : tie.Need-returns-6
 unfolding metBy
-returns-6 c = rw (c .before .before .before .before .rule2 .given .1, c .before .enum-told5 .given .1, c .whole4 .ensures)
+returns-6 c = rw (c .before .before .before .before .rule2 .given .1, c .enum-told5 .given .1, c .before .before .whole .ensures)
 
 returns-7 : tie.Need-returns-7
 unfolding metBy
@@ -85,15 +76,12 @@ met-spec =
     enum-known-rule
     spread-met-requires
     enum-known-rule-2
+    whole-requires
     enum-told
     enum-told-2
-    whole-requires
     enum-told-3
-    whole-requires-2
     enum-told-4
-    whole-requires-3
     enum-told-5
-    whole-requires-4
     enum-known-rule-3
     size-met-requires
     returns
