@@ -1,4 +1,4 @@
-// What an accepted reading decides by the table of "Iteration", and which vertex an expansion keeps.
+// What an accepted reading decides by the table of "Iteration", and which vertex it brings.
 use super::point::trial_in;
 use super::stop::Piece;
 use rules::Phase;
@@ -7,14 +7,13 @@ use rules::Side;
 use rules::Vertex;
 ghost use mathlib.Core.Path.{_≡_};
 ghost use Prim.Native.Nat.{_≤_};
-ghost use Rattle.rules.specs.Accept.{wins};
-ghost use Rattle.engine.specs.Decide.{rowBy, rowOf, sideOf, decisionIn, keptOf};
+ghost use Rattle.rules.specs.Accept.{better, winsExpanded, reflectedVertex, wins};
+ghost use Rattle.engine.specs.Decide.{rowBy, rowOf, sideOf, decisionIn, keptIn};
 
 // What an iteration's reading decides by the table, or what another phase's reading is for.
 pub(super) enum Decision {
     Build(usize),
     Take(Piece),
-    Expand(u64),
     Wait(Phase),
     Shrink,
     Shrunk(usize),
@@ -43,8 +42,8 @@ fn reflected_on(s: Search, cost: u64) -> Decision
     ensures { λ r. ⌜ r ≡ rowOf cost s ⌝ }
 {
     let n = s.setup.n;
-    let places = s.standing;
-    row(cost, places.costs[0], places.costs[n - 1], places.costs[n])
+    let costs = s.standing.costs;
+    row(cost, costs[0], costs[n - 1], costs[n])
 }
 
 // The outside or inside point told: it is taken, or a shrink begins.
@@ -73,7 +72,7 @@ pub(super) fn decided(s: Search, phase: Phase, cost: u64) -> Decision
     match phase {
         Phase::Building(i) => Decision::Build(i),
         Phase::Reflecting => reflected_on(s, cost),
-        Phase::Expanding(fr) => Decision::Expand(fr),
+        Phase::Expanding(_) => Decision::Take(Piece::Expansion),
         Phase::Contracting(side, fr) => contracted_on(s, side, fr, cost),
         Phase::Shrinking(j) => Decision::Shrunk(j),
         Phase::Probing(p) => Decision::Probe(p),
@@ -82,14 +81,30 @@ pub(super) fn decided(s: Search, phase: Phase, cost: u64) -> Decision
 }
 
 // e told: e is kept where it is lower than r, else r.
-pub(super) fn expanded_on(s: Search, fr: u64, v: Vertex) -> Vertex
+fn expanded_on(s: Search, fr: u64, v: Vertex) -> Vertex
     requires { ⌜ (1 ≤ s .setup .n) × (s .setup .n ≤ 8) ⌝ }
-    ensures { λ r. ⌜ r ≡ keptOf fr v s ⌝ }
+    ensures { λ r. ⌜ r ≡ better (winsExpanded fr (v .cost) s) v (reflectedVertex fr s) ⌝ }
 {
     if v.cost < fr {
         v
     } else {
         let point = trial_in(s, Phase::Reflecting);
         Vertex { point, cost: fr }
+    }
+}
+
+// The vertex that the reading v brings in each phase: its own but where e is told.
+pub(super) fn kept(s: Search, phase: Phase, v: Vertex) -> Vertex
+    requires { ⌜ (1 ≤ s .setup .n) × (s .setup .n ≤ 8) ⌝ }
+    ensures { λ r. ⌜ r ≡ keptIn phase v s ⌝ }
+{
+    match phase {
+        Phase::Building(_) => v,
+        Phase::Reflecting => v,
+        Phase::Expanding(fr) => expanded_on(s, fr, v),
+        Phase::Contracting(_, _) => v,
+        Phase::Shrinking(_) => v,
+        Phase::Probing(_) => v,
+        Phase::Ended(_) => v,
     }
 }

@@ -8,7 +8,7 @@ use super::change::waiting;
 use super::change::with_phase;
 use super::decide::Decision;
 use super::decide::decided;
-use super::decide::expanded_on;
+use super::decide::kept;
 use super::insert::inserted;
 use super::place::blank;
 use super::place::place_at;
@@ -143,7 +143,7 @@ fn probed_on(s: Search, p: usize, b: u64, v: Vertex) -> Search
     }
 }
 
-// Does what the reading v decided, b being the best cost before it.
+// Does what was decided, with the vertex v that is kept, b being the best cost before the reading.
 fn acted(s: Search, decision: Decision, b: u64, v: Vertex) -> Search
     requires { ⌜ (Ready s) × (Allowed (s .setup .n) decision) × (v .cost ≤ maxCost) ⌝ }
     ensures { λ r. ⌜ r ≡ actedOn decision b v s ⌝ }
@@ -151,10 +151,6 @@ fn acted(s: Search, decision: Decision, b: u64, v: Vertex) -> Search
     match decision {
         Decision::Build(i) => built_on(s, i, v),
         Decision::Take(piece) => taken(s, piece, v),
-        Decision::Expand(fr) => {
-            let kept = expanded_on(s, fr, v);
-            taken(s, Piece::Expansion, kept)
-        }
         Decision::Wait(phase) => waiting(s, phase),
         Decision::Shrink => shrinking(s),
         Decision::Shrunk(j) => shrunk_on(s, j, v),
@@ -169,7 +165,8 @@ fn advanced(s: Search, phase: Phase, b: u64, v: Vertex) -> Search
     ensures { λ r. ⌜ r ≡ advanced phase b v s ⌝ }
 {
     let decision = decided(s, phase, v.cost);
-    acted(s, decision, b, v)
+    let brought = kept(s, phase, v);
+    acted(s, decision, b, brought)
 }
 
 // The phase with the budget tested: a spent one ends the search, unless the reading settled it.

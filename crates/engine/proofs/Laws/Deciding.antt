@@ -10,7 +10,7 @@ use Rattle.rules.specs.declared.Phase.{Phase}
 use Rattle.rules.specs.declared.Phase.the-variants.{Building, Reflecting, Expanding, Contracting, Shrinking, Probing, Ended}
 use Rattle.rules.specs.declared.Side.the-variants.{Outside, Inside}
 use Rattle.engine.specs.Ready.{Fits}
-use Rattle.engine.specs.Decide.{either, decisionIn, keptOf, Allowed, actedOn}
+use Rattle.engine.specs.Decide.{either, decisionIn, keptIn, Allowed, actedOn}
 use Rattle.engine.specs.declared.stop.Piece.the-variants.{Reflection, Contraction}
 use Rattle.engine.specs.declared.decide.Decision.{Decision}
 use Rattle.engine.specs.declared.decide.Decision.the-variants.{Take, Wait, Shrink}
@@ -29,7 +29,7 @@ decision-allowed n Reflecting f s h =
     either-allowed n (row1 f s) (Wait (Expanding f)) _ tt
     (either-allowed n (row2 f s) (Take Reflection) _ tt
     (either-allowed n (row3 f s) (Wait (Contracting Outside f)) (Wait (Contracting Inside f)) tt tt))
-decision-allowed n (Expanding fr) f s h = h
+decision-allowed n (Expanding fr) f s h = tt
 decision-allowed n (Contracting side fr) f s h = either-allowed n (wins side fr f s) (Take Contraction) Shrink tt tt
 decision-allowed n (Shrinking j) f s h = h
 decision-allowed n (Probing p) f s h = h
@@ -42,9 +42,15 @@ better-low : (t : Bool) (v w : Vertex) → v .cost ≤ maxCost → w .cost ≤ m
 better-low true v w h k = h
 better-low false v w h k = k
 
--- the vertex that an expansion keeps has a cost in range, where those of e and r are
-pub kept-low : (fr : ℕ) (v : Vertex) (s : Search) → fr ≤ maxCost → v .cost ≤ maxCost → keptOf fr v s .cost ≤ maxCost
-kept-low fr v s h k = better-low (winsExpanded fr (v .cost) s) v (reflectedVertex fr s) k h
+-- the vertex that a reading with a cost in range brings has a cost in range
+pub kept-low : (n : ℕ) (p : Phase) (v : Vertex) (s : Search) → Fits n p → v .cost ≤ maxCost → keptIn p v s .cost ≤ maxCost
+kept-low n (Building i) v s h k = k
+kept-low n Reflecting v s h k = k
+kept-low n (Expanding fr) v s h k = better-low (winsExpanded fr (v .cost) s) v (reflectedVertex fr s) k h
+kept-low n (Contracting side fr) v s h k = k
+kept-low n (Shrinking j) v s h k = k
+kept-low n (Probing p) v s h k = k
+kept-low n (Ended cause) v s h k = k
 
 -- ---- what is done after a decision
 
@@ -54,7 +60,7 @@ acted-either b v s true x y = refl
 acted-either b v s false x y = refl
 
 -- the decision on the reading v and what is done after it make what the rules say of v
-pub acted-decided : (p : Phase) (b : ℕ) (v : Vertex) (s : Search) → actedOn (decisionIn p (v .cost) s) b v s ≡ advanced p b v s
+pub acted-decided : (p : Phase) (b : ℕ) (v : Vertex) (s : Search) → actedOn (decisionIn p (v .cost) s) b (keptIn p v s) s ≡ advanced p b v s
 unfolding advanced reflectedOn expandedOn contractedOn
 acted-decided (Building i) b v s = refl
 acted-decided Reflecting b v s =

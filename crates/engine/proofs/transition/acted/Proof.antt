@@ -1,7 +1,6 @@
 -- `engine::transition::acted` meets its contract, decision by decision. Assumes nothing.
 use native.Mathlib.Omega.{arith}
 use borrow.Author.Needs.{needs}
-use Rattle.engine.proofs.Laws.Deciding.{kept-low}
 use Rattle.engine.proofs.transition.acted.Statement.{statement}
 use Rattle.engine.proofs.transition.acted.Tie as tie
 
@@ -20,18 +19,6 @@ taken-requires c κs = search needs
 enum-known-decision-3 : tie.Need-enum-known-decision-3
 enum-known-decision-3 c = search needs
 
-expanded-on-requires : tie.Need-expanded-on-requires
-expanded-on-requires c κs = search needs
-
-taken-requires-2 : tie.Need-taken-requires-2
-taken-requires-2 c κs =
-    let at = c .before .before .before .before in
-    let a = at .args in
-    (at .pre .0, rw (c .expanded-on .ensures) (kept-low _ (a .v) (a .s) (rw (c .before .before .decision3 .given .1) at (at .pre .1)) (at .pre .2)))
-
-enum-known-decision-4 : tie.Need-enum-known-decision-4
-enum-known-decision-4 c = search needs
-
 waiting-requires : tie.Need-waiting-requires
 waiting-requires c κs = search needs
 
@@ -41,17 +28,17 @@ enum-told c = search needs
 shrinking-requires : tie.Need-shrinking-requires
 shrinking-requires c κs = search needs
 
+enum-known-decision-4 : tie.Need-enum-known-decision-4
+enum-known-decision-4 c = search needs
+
+shrunk-on-requires : tie.Need-shrunk-on-requires
+shrunk-on-requires c κs = (c .before .before .before .pre .0, (rw (c .before .decision4 .given .1) at (c .before .before .before .pre .1)) .1, c .before .before .before .pre .2)
+
 enum-known-decision-5 : tie.Need-enum-known-decision-5
 enum-known-decision-5 c = search needs
 
-shrunk-on-requires : tie.Need-shrunk-on-requires
-shrunk-on-requires c κs = (c .before .before .before .pre .0, (rw (c .before .decision5 .given .1) at (c .before .before .before .pre .1)) .1, c .before .before .before .pre .2)
-
-enum-known-decision-6 : tie.Need-enum-known-decision-6
-enum-known-decision-6 c = search needs
-
 probed-on-requires : tie.Need-probed-on-requires
-probed-on-requires c κs = (c .before .before .before .pre .0, omega (arith, rw (c .before .decision6 .given .1) at (c .before .before .before .pre .1)))
+probed-on-requires c κs = (c .before .before .before .pre .0, omega (arith, rw (c .before .decision5 .given .1) at (c .before .before .before .pre .1)))
 
 enum-told-2 : tie.Need-enum-told-2
 enum-told-2 c = search needs
@@ -63,22 +50,19 @@ returns-2 : tie.Need-returns-2
 returns-2 c = rw (c .before .before .decision2 .given .1) (c .taken .ensures)
 
 returns-3 : tie.Need-returns-3
-returns-3 c = rw (c .before .before .before .decision3 .given .1, ← c .before .expanded-on .ensures) (c .taken2 .ensures)
+returns-3 c = rw (c .before .before .decision3 .given .1) (c .waiting .ensures)
 
 returns-4 : tie.Need-returns-4
-returns-4 c = rw (c .before .before .decision4 .given .1) (c .waiting .ensures)
+returns-4 c = rw (c .before .enum-told .given .1) (c .shrinking .ensures)
 
 returns-5 : tie.Need-returns-5
-returns-5 c = rw (c .before .enum-told .given .1) (c .shrinking .ensures)
+returns-5 c = rw (c .before .before .decision4 .given .1) (c .shrunk-on .ensures)
 
 returns-6 : tie.Need-returns-6
-returns-6 c = rw (c .before .before .decision5 .given .1) (c .shrunk-on .ensures)
+returns-6 c = rw (c .before .before .decision5 .given .1) (c .probed-on .ensures)
 
 returns-7 : tie.Need-returns-7
-returns-7 c = rw (c .before .before .decision6 .given .1) (c .probed-on .ensures)
-
-returns-8 : tie.Need-returns-8
-returns-8 c = rw (c .enum-told2 .given .1)
+returns-7 c = rw (c .enum-told2 .given .1)
 
 pub acted-spec : {M : Type 1} → statement M
 acted-spec =
@@ -89,15 +73,12 @@ acted-spec =
     enum-known-decision-2
     taken-requires
     enum-known-decision-3
-    expanded-on-requires
-    taken-requires-2
-    enum-known-decision-4
     waiting-requires
     enum-told
     shrinking-requires
-    enum-known-decision-5
+    enum-known-decision-4
     shrunk-on-requires
-    enum-known-decision-6
+    enum-known-decision-5
     probed-on-requires
     enum-told-2
     returns
@@ -106,5 +87,4 @@ acted-spec =
     returns-4
     returns-5
     returns-6
-    returns-7
-    returns-8)
+    returns-7)
