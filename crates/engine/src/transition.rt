@@ -199,9 +199,10 @@ pub(super) fn accept(s: Search, cost: u64) -> Search
     ensures { λ r. ⌜ r ≡ accept s cost ⌝ }
 {
     let phase = s.phase;
+    let best = s.best.cost;
     let point = trial_in(s, phase);
     let v = Vertex { point, cost };
     let after = noted(s, v);
-    let next = advanced(after, phase, s.best.cost, v);
+    let next = advanced(after, phase, best, v);
     budgeted(next)
 }
