@@ -66,11 +66,12 @@ pub fn ask(search: Search) -> Asked
     let verdict = sound::ask_verdict(search);
     match verdict {
         Verdict::Accepted => {
+            let setup = search.setup;
             let points = search.standing.points;
             let center = search.center;
             let best = search.best.point;
             let phase = search.phase;
-            let point = point::trial(search.setup, &points, &center, &best, phase);
+            let point = point::trial(setup, &points, &center, &best, phase);
             Asked {
                 verdict: Verdict::Accepted,
                 number: search.readings + 1,

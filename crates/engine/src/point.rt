@@ -86,26 +86,24 @@ fn coordinate(
     requires { ⌜ (1 ≤ n) × (n ≤ 8) × (a < 8) × Fits n phase ⌝ }
     ensures { λ r. ⌜ r ≡ coordinateBy n x k (now (points .entry)) (now (center .entry)) (now (best .entry)) phase a ⌝ }
 {
-    let first = points[a];
-    let worst = points[8 * n + a];
     match phase {
         Phase::Building(i) => built(x, center[a], i == a + 1),
         Phase::Reflecting => {
             let c = centroid(points, n, a);
-            moved(x, c, k.alpha, c, worst)
+            moved(x, c, k.alpha, c, points[8 * n + a])
         }
         Phase::Expanding(_) => {
             let c = centroid(points, n, a);
-            beyond(x, c, worst, k.alpha, k.chi)
+            beyond(x, c, points[8 * n + a], k.alpha, k.chi)
         }
         Phase::Contracting(side, _) => {
             let c = centroid(points, n, a);
             match side {
-                Side::Outside => beyond(x, c, worst, k.alpha, k.beta),
-                Side::Inside => moved(x, c, k.beta, worst, c),
+                Side::Outside => beyond(x, c, points[8 * n + a], k.alpha, k.beta),
+                Side::Inside => moved(x, c, k.beta, points[8 * n + a], c),
             }
         }
-        Phase::Shrinking(j) => moved(x, first, k.sigma, points[8 * j + a], first),
+        Phase::Shrinking(j) => moved(x, points[a], k.sigma, points[8 * j + a], points[a]),
         Phase::Probing(p) => probed(x, best[a], p, a),
         Phase::Ended(_) => 0.0 / 0.0,
     }
@@ -140,10 +138,11 @@ pub(super) fn trial_in(search: Search, phase: Phase) -> [f64; 8]
     requires { ⌜ (1 ≤ search .setup .n) × (search .setup .n ≤ 8) × Fits (search .setup .n) phase ⌝ }
     ensures { λ r. ⌜ r ≡ point (search .setup .n) (asked search phase) ⌝ }
 {
+    let setup = search.setup;
     let points = search.standing.points;
     let center = search.center;
     let best = search.best.point;
-    trial(search.setup, &points, &center, &best, phase)
+    trial(setup, &points, &center, &best, phase)
 }
 
 // The first n coordinates of a point, zero after them.

@@ -17,14 +17,14 @@ enum-told c = search needs
 
 trial-requires : tie.Need-trial-requires
 trial-requires c κs =
-    let at = c .before .before .before .before .before .before in
+    let at = c .before .before .before .before .before .before .before in
     let s = at .before .before .before .args .search in
     let h : sound s ≡ true = ask-sound s (sym (at .before .before .ask-verdict .ensures) ∙ at .enum-told .given .1) in
     (ready s h .low, ready s h .high, fits s h)
 
-add-t14 : tie.Need-add-t14
-add-t14 c =
-    let at = c .before .before .before .before .before .before .before .before in
+add-t15 : tie.Need-add-t15
+add-t15 c =
+    let at = c .before .before .before .before .before .before .before .before .before in
     let s = at .before .before .before .args .search in
     omega (arith, below s (ask-sound s (sym (at .before .before .ask-verdict .ensures) ∙ at .enum-told .given .1)))
 
@@ -37,7 +37,7 @@ refused-ask-requires c κs = search needs
 returns : tie.Need-returns
 unfolding asking trial
 returns c =
-    let at = c .before .before .before .before .before .before .before .before in
+    let at = c .before .before .before .before .before .before .before .before .before in
     rw (← at .before .before .ask-verdict .ensures, at .enum-told .given .1, c .before .trial .ensures)
 
 returns-2 : tie.Need-returns-2
@@ -51,7 +51,7 @@ ask-spec =
     ask-verdict-requires
     enum-told
     trial-requires
-    add-t14
+    add-t15
     enum-known-verdict
     refused-ask-requires
     returns
