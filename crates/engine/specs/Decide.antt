@@ -1,8 +1,7 @@
 -- An accepted reading in two steps, as the code makes them: what it decides by the table, and what is done then.
 use mathlib.Core.Bool.{Bool, true, false}
 use Prim.Native.Nat.{ℕ, _*_, _≤_, _<_}
-use lib.Dec.{ltb}
-use Rattle.rules.specs.Accept.{f1, fn, fw, wins, winsExpanded, better, reflectedVertex, builtOn, taken, waiting, shrinking, shrunkOn, probedOn}
+use Rattle.rules.specs.Accept.{row1, row2, row3, wins, winsExpanded, better, reflectedVertex, builtOn, taken, waiting, shrinking, shrunkOn, probedOn}
 use Rattle.rules.specs.declared.Vertex.{Vertex}
 use Rattle.rules.specs.declared.Search.{Search}
 use Rattle.rules.specs.declared.Phase.{Phase}
@@ -18,16 +17,16 @@ abbrev pub either : Bool → Decision → Decision → Decision
 either true a b = a
 either false a b = b
 
--- the row of the table for r's cost f, by the costs at places 1, n and n + 1
-abbrev pub rowBy : ℕ → ℕ → ℕ → ℕ → Decision
-rowBy f first last worst =
-    either (ltb f first) (Wait (Expanding f))
-    (either (ltb f last) (Take Reflection)
-    (either (ltb f worst) (Wait (Contracting Outside f)) (Wait (Contracting Inside f))))
+-- what r's cost f decides, by the tests of the first three rows of the table
+abbrev pub rowBy : ℕ → Bool → Bool → Bool → Decision
+rowBy f first second third =
+    either first (Wait (Expanding f))
+    (either second (Take Reflection)
+    (either third (Wait (Contracting Outside f)) (Wait (Contracting Inside f))))
 
 -- r told: the four rows of the table
 abbrev pub rowOf : ℕ → Search → Decision
-rowOf f s = rowBy f (f1 s) (fn s) (fw s)
+rowOf f s = rowBy f (row1 f s) (row2 f s) (row3 f s)
 
 -- the outside or inside point told: taken, or a shrink begins
 abbrev pub sideOf : Bool → Decision

@@ -7,6 +7,7 @@ use rules::Side;
 use rules::Vertex;
 ghost use mathlib.Core.Path.{_≡_};
 ghost use Prim.Native.Nat.{_≤_};
+ghost use lib.Dec.{ltb};
 ghost use Rattle.rules.specs.Accept.{better, winsExpanded, reflectedVertex, wins};
 ghost use Rattle.engine.specs.Decide.{rowBy, rowOf, sideOf, decisionIn, keptIn};
 
@@ -21,9 +22,9 @@ pub(super) enum Decision {
     Nothing,
 }
 
-// The row of the table for r's cost, f1, fn and fn+1 being the costs at places 1, n and n + 1.
+// The row of the table for r's cost, by the costs at places 1, n and n + 1.
 fn row(cost: u64, first: u64, last: u64, worst: u64) -> Decision
-    ensures { λ r. ⌜ r ≡ rowBy cost first last worst ⌝ }
+    ensures { λ r. ⌜ r ≡ rowBy cost (ltb cost first) (ltb cost last) (ltb cost worst) ⌝ }
 {
     if cost < first {
         Decision::Wait(Phase::Expanding(cost))
