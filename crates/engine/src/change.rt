@@ -69,7 +69,7 @@ pub(super) fn probed_once(counts: Counts) -> Counts
 }
 
 // The search with its phase, simplexes, center and counts changed. Every step of a reading ends here.
-pub(super) fn changed(
+fn changed(
     s: Search,
     phase: Phase,
     standing: Simplex,
