@@ -1,6 +1,8 @@
 // The types of document 01, "Specification of the build and its rules", and the numbers of it that code needs. The rules
 // themselves are the definitions in specs/; this crate has no function.
 
+#![tactic(auto)]
+
 // The largest cost, which the camera tells for a dark frame; `maxCost` of specs/Numbers.
 pub const MAX_COST: u64 = 16777215;
 
@@ -19,7 +21,7 @@ pub const USUAL: Coefficients = Coefficients {
 };
 
 // One axis record: its limits, the position where it starts, and the first step along it.
-#[derive(Drop)]
+#[derive(Clone, Copy)]
 pub struct Axis {
     pub lo: f64,
     pub hi: f64,
@@ -28,7 +30,7 @@ pub struct Axis {
 }
 
 // The coefficients of reflection (alpha), expansion (chi), contraction (beta) and shrink (sigma).
-#[derive(Drop)]
+#[derive(Clone, Copy)]
 pub struct Coefficients {
     pub alpha: f64,
     pub chi: f64,
@@ -37,7 +39,7 @@ pub struct Coefficients {
 }
 
 // A stopping rule with its threshold E.
-#[derive(Drop)]
+#[derive(Clone, Copy)]
 pub enum Rule {
     Spread(u64),
     Moved(f64),
@@ -45,28 +47,28 @@ pub enum Rule {
 }
 
 // What an opening says of the rule: it names one, or none.
-#[derive(Drop)]
+#[derive(Clone, Copy)]
 pub enum RuleChoice {
     Unnamed,
     Named(Rule),
 }
 
 // The side of a contraction: towards the reflected point, or towards the worst vertex.
-#[derive(Drop)]
+#[derive(Clone, Copy)]
 pub enum Side {
     Outside,
     Inside,
 }
 
 // Why a search has ended.
-#[derive(Drop)]
+#[derive(Clone, Copy)]
 pub enum Cause {
     Settled,
     Budget,
 }
 
 // What the next reading is for.
-#[derive(Drop)]
+#[derive(Clone, Copy)]
 pub enum Phase {
     // trial i of a build, from 0; a restart begins at 1, since its point's cost is known
     Building(usize),
@@ -84,14 +86,14 @@ pub enum Phase {
 }
 
 // A point with its cost. Coordinates past the axis count are 0.
-#[derive(Drop)]
+#[derive(Clone, Copy)]
 pub struct Vertex {
     pub point: [f64; 8],
     pub cost: u64,
 }
 
 // Nine places in one flat run: coordinate a of place i, both from 0, stands at 8 * i + a.
-#[derive(Drop)]
+#[derive(Clone, Copy)]
 pub struct Simplex {
     pub points: [f64; 72],
     pub costs: [u64; 9],
@@ -99,7 +101,7 @@ pub struct Simplex {
 
 // Finished builds, reflections, expansions, contractions and shrinks; probe readings; and the readings
 // told in the unfinished piece, which document 01 calls Open.
-#[derive(Drop)]
+#[derive(Clone, Copy)]
 pub struct Counts {
     pub builds: u64,
     pub reflections: u64,
@@ -112,7 +114,7 @@ pub struct Counts {
 
 // What an opening fixes for good: the axis count n, the axes (zero records past n), coefficients, rule
 // and budget.
-#[derive(Drop)]
+#[derive(Clone, Copy)]
 pub struct Setup {
     pub n: usize,
     pub axes: [Axis; 8],
@@ -123,7 +125,7 @@ pub struct Setup {
 
 // A search: the standing simplex is that of the last finished build or iteration, the gathered one holds
 // what an unfinished build or shrink has so far, and the center is the point that a build goes around.
-#[derive(Drop)]
+#[derive(Clone, Copy)]
 pub struct Search {
     pub setup: Setup,
     pub phase: Phase,
@@ -136,7 +138,7 @@ pub struct Search {
 }
 
 // A refusal, with the axis, from 1, where the table gives one. The rules set out the number of each.
-#[derive(Drop)]
+#[derive(Clone, Copy)]
 pub enum Refusal {
     AxisCount,
     OutOfRange(usize),
@@ -152,21 +154,21 @@ pub enum Refusal {
     Damaged,
 }
 
-#[derive(Drop)]
+#[derive(Clone, Copy)]
 pub enum Verdict {
     Accepted,
     Refused(Refusal),
 }
 
 // The answer of an opening.
-#[derive(Drop)]
+#[derive(Clone, Copy)]
 pub struct Opened {
     pub verdict: Verdict,
     pub search: Search,
 }
 
 // The answer of ask: the trial with its reading number.
-#[derive(Drop)]
+#[derive(Clone, Copy)]
 pub struct Asked {
     pub verdict: Verdict,
     pub number: u64,
@@ -175,14 +177,14 @@ pub struct Asked {
 }
 
 // The answer of tell.
-#[derive(Drop)]
+#[derive(Clone, Copy)]
 pub struct Told {
     pub verdict: Verdict,
     pub search: Search,
 }
 
 // The answer of best: the earliest reading of least cost.
-#[derive(Drop)]
+#[derive(Clone, Copy)]
 pub struct Shown {
     pub verdict: Verdict,
     pub reading: Vertex,

@@ -1,6 +1,6 @@
 -- Laws on histories: what the rules make of one list of costs after another. Assumes nothing.
 use mathlib.Core.Path.{◌≡◌, refl, ap}
-use mathlib.Core.Bool.{false}
+use mathlib.Core.Bool.{false, cond}
 use mathlib.Core.List.Memᴰ
 use mathlib.Core.List.{List, [], ◌∷◌, ◌++◌, map, Memᴰ}
 use mathlib.Core.Logic.{⊎_elim}
@@ -17,7 +17,7 @@ use Rattle.rules.specs.Trial.{trial}
 use Rattle.rules.specs.Accept.{Piece, accept, run}
 use Rattle.rules.specs.Calls.{is_ended}
 use Rattle.rules.specs.History.{reading}
-use Rattle.rules.specs.Tally.{finishes, pieces, count_of, made, probes_in, open_in}
+use Rattle.rules.specs.Tally.{finishes, pieces, count_of, made, probes_in, is_open, is_probe, open_in}
 
 -- the trial of a search with its cost
 abbrev pub reading_of : Search → ℕ → Vertex
@@ -67,7 +67,7 @@ probes_in_append s (c ∷ p) q = rw (probes_in_append (accept s c) p q) (omega a
 pub open_in_append : (k : ℕ) (s : Search) (p q : List ℕ) → open_in k s (p ++ q) ≡ open_in (open_in k s p) (run s p) q
 unfolding open_in run
 open_in_append k s [] q = refl
-open_in_append k s (c ∷ p) q = open_in_append _ (accept s c) p q
+open_in_append k s (c ∷ p) q = open_in_append (cond (is_open (finishes s.phase s c) (is_probe s.phase) s.readings) (k + 1) 0) (accept s c) p q
 
 pub readings_of_append : (s : Search) (p q : List ℕ) → readings_of s (p ++ q) ≡ readings_of s p ++ readings_of (run s p) q
 unfolding readings_of run
