@@ -8,7 +8,7 @@ use super::stop::Piece;
 use rules::{Phase, Search, Side, Vertex};
 
 // What an iteration's reading decides by the table, or what another phase's reading is for.
-#[derive(Drop)]
+#[derive(Clone, Copy)]
 pub(super) enum Decision {
     Build(usize),
     Take(Piece),

@@ -1,5 +1,8 @@
 // The calls of the engine. Each promise equates the whole answer with the rules' definition of that call, for
 // every argument: refused calls too, and searches that no opening made.
+
+#![tactic(auto)]
+
 use rules::{
     Asked, Axis, Coefficients, Opened, Refusal, RuleChoice, Search, Shown, Told, Verdict, Vertex,
 };

@@ -7,7 +7,7 @@ use super::change::is_ended;
 use rules::{Counts, MAX_BUDGET, MAX_COST, MAX_SPREAD, Phase, Refusal, Rule, Search, Verdict};
 
 // What refusal 12 tests of a search: its places by their costs, its best by its cost.
-#[derive(Drop)]
+#[derive(Clone, Copy)]
 struct Held {
     n: usize,
     budget: u64,

@@ -12,7 +12,7 @@ use super::place::point_at;
 use rules::{Rule, Simplex};
 
 // A build, or an iteration by the row of the table that ends it.
-#[derive(Drop)]
+#[derive(Clone, Copy)]
 pub(super) enum Piece {
     Build,
     Reflection,
@@ -22,7 +22,7 @@ pub(super) enum Piece {
 }
 
 // A sum of costs, and the sum of their squares.
-#[derive(Drop)]
+#[derive(Clone, Copy)]
 struct Sums {
     plain: u64,
     squares: u64,

@@ -1,8 +1,12 @@
 // How numbers stand in texts, apart from any one text: a float by its bits, and the digit that a byte is.
+
+#![tactic(auto)]
+
 ghost use Rattle.std.specs.Prelude.{◌≡◌};
 ghost use Rattle.std.specs.Float.{binary64};
 ghost use Rattle.std.specs.Float.Ieee.{of_bits, to_bits};
 ghost use Rattle.numerals.specs.Digits.{digit_of};
+
 
 // The float with these bits; any NaN's bits give the one NaN.
 pub fn float_of(bits: u64) -> f64

@@ -1,4 +1,7 @@
 // Reads a script of calls on standard input, makes them one after the other, and prints every answer (docs/REPLAY.md).
+
+#![tactic(auto)]
+
 use libc::STDIN_FILENO;
 use rules::Search;
 
@@ -9,7 +12,7 @@ mod series;
 mod state;
 
 // A line of the script, if its form is right: its letter, its words, with zeros up to forty, and where the next line begins.
-#[derive(Drop)]
+#[derive(Clone, Copy)]
 struct Line {
     well: bool,
     letter: u8,
@@ -18,21 +21,21 @@ struct Line {
 }
 
 // A word, if its form is right, else 0.
-#[derive(Drop)]
+#[derive(Clone, Copy)]
 struct Word {
     well: bool,
     value: u64,
 }
 
 // The words of an answer, with zeros up to a hundred.
-#[derive(Drop)]
+#[derive(Clone, Copy)]
 struct Answer {
     words: [u64; 100],
     count: usize,
 }
 
 // What a line does: the search after it, and the answer.
-#[derive(Drop)]
+#[derive(Clone, Copy)]
 struct Turn {
     search: Search,
     answer: Answer,

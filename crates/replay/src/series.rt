@@ -7,21 +7,21 @@ use numerals::{bits_of, float_of};
 use rules::{Axis, MAX_BUDGET, Opened, RuleChoice, USUAL};
 
 // The point that a search's bowl stands around, and the generator's number after it.
-#[derive(Drop)]
+#[derive(Clone, Copy)]
 struct Bowl {
     around: [f64; 8],
     generated: u64,
 }
 
 // What one search of the series told: how many readings, and the sum of their costs.
-#[derive(Drop)]
+#[derive(Clone, Copy)]
 struct Run {
     told: u64,
     sum: u64,
 }
 
 // What the whole series told: how many searches, and the sum of their costs.
-#[derive(Drop)]
+#[derive(Clone, Copy)]
 struct Total {
     searches: u64,
     sum: u64,

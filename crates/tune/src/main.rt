@@ -1,4 +1,7 @@
 // Reads standard input, steps through it, and writes the lines that the steps print.
+
+#![tactic(auto)]
+
 ghost use Rattle.std.specs.Prelude.{◌≡◌, false, ◌<◌};
 ghost use Rattle.tune_text.specs.Reading.{is_done};
 ghost use Rattle.tune_text.specs.Steps.{steps_left};
@@ -7,7 +10,7 @@ use libc::{STDERR_FILENO, STDIN_FILENO, STDOUT_FILENO};
 use tune_text::State;
 
 // The state after some steps, and whether all their lines were written.
-#[derive(Drop)]
+#[derive(Clone, Copy)]
 struct Written {
     state: State,
     whole: bool,

@@ -1,5 +1,8 @@
 // The text of `tune`, one step at a time: a step reads at most one line of the input and prints at most one line. What all the steps
 // print is `transcript` of the input, a definition of specs/ (proofs/Whole.antt).
+
+#![tactic(auto)]
+
 use rules::{Axis, Cause, Search};
 
 mod fields;
@@ -14,7 +17,7 @@ ghost use Rattle.tune_text.specs.Reading.{is_done};
 ghost use Rattle.tune_text.specs.Steps.{first_state, stepping, Fills};
 
 // What the next line is: the line of n, budget and spread E; axis line k, from 0; a cost; or none.
-#[derive(Drop)]
+#[derive(Clone, Copy)]
 pub enum Stage {
     Head,
     Axes(usize),
@@ -23,7 +26,7 @@ pub enum Stage {
 }
 
 // What the opening is asked for, with zero records for axis lines not yet read.
-#[derive(Drop)]
+#[derive(Clone, Copy)]
 pub struct Request {
     pub n: usize,
     pub budget: u64,
@@ -32,7 +35,7 @@ pub struct Request {
 }
 
 // What is read so far. The search is closed before the opening.
-#[derive(Drop)]
+#[derive(Clone, Copy)]
 pub struct Progress {
     pub stage: Stage,
     pub request: Request,
@@ -40,7 +43,7 @@ pub struct Progress {
 }
 
 // Where a step begins: the first byte that is not read, and the number of its line, from 1.
-#[derive(Drop)]
+#[derive(Clone, Copy)]
 pub struct State {
     pub position: usize,
     pub line: u64,
@@ -48,49 +51,49 @@ pub struct State {
 }
 
 // A line of the output with its newline, or no line: the first count bytes.
-#[derive(Drop)]
+#[derive(Clone, Copy)]
 pub struct Text {
     pub bytes: [u8; 192],
     pub count: usize,
 }
 
 // The answer of step: the state after it, and the line that it prints.
-#[derive(Drop)]
+#[derive(Clone, Copy)]
 pub struct Stepped {
     pub state: State,
     pub text: Text,
 }
 
 // The answer of fill: the state after its steps, and how many bytes of the buffer are their lines.
-#[derive(Drop)]
+#[derive(Clone, Copy)]
 pub struct Filled {
     pub state: State,
     pub count: usize,
 }
 
 // What a line of the input does: what is read so far, then, and the line that is printed.
-#[derive(Drop)]
+#[derive(Clone, Copy)]
 struct Turn {
     progress: Progress,
     text: Text,
 }
 
 // What the last line gives as the cause: why the search has ended, or that it waits for a cost.
-#[derive(Drop)]
+#[derive(Clone, Copy)]
 enum Ending {
     Waiting,
     Because(Cause),
 }
 
 // A field's number, if its form is right, else 0.
-#[derive(Drop)]
+#[derive(Clone, Copy)]
 struct Number {
     well: bool,
     value: u64,
 }
 
 // A line's numbers, if its form is right, with zeros up to four.
-#[derive(Drop)]
+#[derive(Clone, Copy)]
 struct Numbers {
     well: bool,
     values: [u64; 4],

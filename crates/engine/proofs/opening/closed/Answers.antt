@@ -1,0 +1,8 @@
+-- `engine::opening::closed` meets its contract, by those of `zero_axis` and `unread`. Assumes nothing.
+use borrow.Author.Rules.{rules}
+use Rattle.rules.specs.Opening.{closed}
+use Rattle.engine.proofs.opening.closed.Goals as goal
+
+pub returns : goal.returns
+unfolding closed
+returns c = rw c.zero_axis-zero.ensures at c.unread.ensures

@@ -1,0 +1,44 @@
+-- `engine::point::coordinate` meets its contract, phase by phase. Assumes nothing.
+use native.Mathlib.Nat.{zero-add}
+use native.Mathlib.Numerals.{add-one}
+use native.Mathlib.Omega.{arith}
+use lib.Ieee.{of_bits, div}
+use borrow.Author.Rules.{rules}
+use Rattle.engine.proofs.point.coordinate.Goals as goal
+
+pub overflow_mul-j : goal.overflow_mul-j
+overflow_mul-j c = omega (arith, rw c.phase-in-Shrinking-1.given.1 at c.requires.3)
+
+pub overflow_add-j : goal.overflow_add-j
+overflow_add-j c = omega (arith, rw c.phase-in-Shrinking-1.given.1 at c.requires.3)
+
+pub offset_bounds-points-j : goal.offset_bounds-points-j
+offset_bounds-points-j c = omega (arith, rw c.phase-in-Shrinking-1.given.1 at c.requires.3)
+
+pub bounds-points-j : goal.bounds-points-j
+bounds-points-j c = omega (arith, rw c.phase-in-Shrinking-1.given.1 at c.requires.3)
+
+pub returns-in-Building : goal.returns-in-Building
+returns-in-Building c = rw (c.phase-1.given.1, ← add-one) c.built.ensures
+
+pub returns-in-Reflecting : goal.returns-in-Reflecting
+returns-in-Reflecting c = rw (c.enum_told-1.given.1, ← c.centroid-c.ensures) c.moved.ensures
+
+pub returns-in-Expanding : goal.returns-in-Expanding
+returns-in-Expanding c = rw (c.enum_told-in-Expanding-1.given.1, ← c.centroid-c-in-Expanding.ensures) c.beyond.ensures
+
+pub returns-in-Outside : goal.returns-in-Outside
+returns-in-Outside c = rw (c.phase-in-Contracting-1.given.1, c.enum_told-in-Outside-1.given.1, ← c.centroid-c-in-Contracting.ensures) c.beyond-in-Outside.ensures
+
+pub returns-in-Inside : goal.returns-in-Inside
+returns-in-Inside c = rw (c.phase-in-Contracting-1.given.1, c.enum_told-in-Inside-1.given.1, ← c.centroid-c-in-Contracting.ensures) c.moved-in-Inside.ensures
+
+pub returns-in-Shrinking : goal.returns-in-Shrinking
+returns-in-Shrinking c = rw c.phase-in-Shrinking-1.given.1 (simp zero-add c.moved-in-Shrinking.ensures)
+
+pub returns-in-Probing : goal.returns-in-Probing
+returns-in-Probing c = rw c.phase-in-Probing-1.given.1 c.probed.ensures
+
+pub returns-in-Ended : goal.returns-in-Ended
+unfolding of_bits div
+returns-in-Ended c = rw c.enum_told-in-Ended-1.given.1

@@ -1,0 +1,13 @@
+-- `engine::stop::distance` meets its contract. Its loop keeps that the sum is that over the first a axes. Assumes nothing.
+use mathlib.Core.Path.{◌≡◌, refl}
+use Prim.Native.Nat.{◌-◌, ◌≤◌}
+use native.Mathlib.Numerals.{add-one}
+use native.Mathlib.Omega.{arith}
+use Rattle.rules.specs.Stop.{apart}
+use Rattle.engine.proofs.stop.distance.Given as goal
+
+abbrev pub invariant-loop-a : goal.invariant-loop-a
+invariant-loop-a l = (l.n ≤ 8) × (l.a ≤ l.n) × (l.sum ≡ apart l.x l.y l.from l.a)
+
+abbrev pub decreases-loop-a : goal.decreases-loop-a
+decreases-loop-a l = l.n - l.a
