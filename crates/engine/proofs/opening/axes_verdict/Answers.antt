@@ -14,10 +14,10 @@ loop-left-init c =
     (omega arith, omega arith, rw none)
 
 pub loop-left-preserved : goal.loop-left-preserved
-loop-left-preserved c = (omega arith, omega arith, c.loop-left.invariant.2 ∙ axes_first c.args.n c.loop-left.left c.args.axes Accepted Accepted (omega arith) (omega arith) (sym c.enum_told-1.given.1 ∙ c.axis_verdict-verdict.ensures))
+loop-left-preserved c = (omega arith, omega arith, c.loop-left.invariant.2 ∙ axes_first c.args.n c.loop-left.left c.args.axes Accepted Accepted (omega arith) (omega arith) c.in-Accepted.ensures)
 
 pub returns-in-Refused : goal.returns-in-Refused
-returns-in-Refused c = sym (c.loop-left.invariant.2 ∙ axes_first c.args.n c.loop-left.left c.args.axes (Refused _) Accepted (omega arith) (omega arith) (sym c.verdict-1.given.1 ∙ c.axis_verdict-verdict.ensures))
+returns-in-Refused c = sym (c.loop-left.invariant.2 ∙ axes_first c.args.n c.loop-left.left c.args.axes (Refused _) Accepted (omega arith) (omega arith) c.in-Refused.ensures)
 
 pub returns : goal.returns
 unfolding axes_checks
