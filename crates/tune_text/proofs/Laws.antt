@@ -1,4 +1,5 @@
 -- Laws that the proofs of several functions cite.
+pub mod Scanning
 pub mod Cutting
 pub mod Decimals
 pub mod Writing

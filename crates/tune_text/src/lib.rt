@@ -10,6 +10,7 @@ mod last;
 mod lines;
 mod opening;
 mod reading;
+mod scan;
 mod steps;
 
 ghost use Rattle.std.specs.Prelude.{◌≡◌};

@@ -25,10 +25,11 @@ fn put(text: Text, word: &[u8]) -> Text
 {
     let mut all = text.bytes;
     let from = text.count;
-    let n = bytes::copy(word, &mut all[from..]);
+    let to = from + word.len();
+    all[from..to].copy_from_slice(word);
     Text {
         bytes: all,
-        count: from + n,
+        count: to,
     }
 }
 

@@ -8,7 +8,7 @@ use native.Mathlib.Omega.{arith}
 use lib.ListN.{length, take, drop, length-drop}
 use lib.Dec.{leb, ltb}
 use borrow.Author.Tests.{ltb-true, ltb-false, leb-true, leb-false}
-use Rattle.bytes.specs.Bytes.{index_of}
+use Rattle.tune_text.specs.Scan.{index_of}
 use Rattle.rules.proofs.Laws.Tests.{cond_elim}
 use Rattle.tune_text.specs.Fields.{newline}
 use Rattle.tune_text.specs.Lines.{bad_line}

@@ -5,7 +5,8 @@ use Prim.Native.Nat.{ℕ, ◌+◌, ◌-◌, ◌≤◌, ◌<◌}
 use native.Mathlib.Omega.{arith}
 use lib.ListN.{length, take, drop, drop_of_length-le, length-drop}
 use borrow.Author.Tests.{le-ltb, lt-ltb}
-use Rattle.bytes.specs.Bytes.{index_of, slice}
+use Rattle.std.specs.Prelude.{slice_range}
+use Rattle.tune_text.specs.Scan.{index_of}
 use Rattle.tune_text.specs.Fields.{newline}
 use Rattle.tune_text.specs.Lines.{bad_line}
 use Rattle.tune_text.specs.Reading.{Turned, line_read, last_line}
@@ -30,7 +31,7 @@ module _ (s : State) (bytes : List ℕ) where
   unfolding line_step index_of
   step_at_end h = rw (drop_of_length-le bytes h)
 
-  module _ (end : ℕ) (found : end ≡ s.position + index_of newline (slice s.position (length bytes) bytes)) where
+  module _ (end : ℕ) (found : end ≡ s.position + index_of newline (slice_range bytes s.position (length bytes))) where
     -- the first newline of what is left
     index : index_of newline (drop s.position bytes) ≡ end - s.position
     index = omega (arith, index_from newline bytes s.position end found)
