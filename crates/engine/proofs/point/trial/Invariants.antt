@@ -1,4 +1,4 @@
--- `engine::point::trial` meets its contract: the loop fills the coordinates as `coordinateBy` gives them, which are those of the rules. Assumes nothing.
+-- `engine::point::trial` meets its contract: the loop fills the coordinates as `coordinate_by` gives them, which are those of the rules. Assumes nothing.
 use mathlib.Core.Path.{◌≡◌}
 use Prim.Native.Nat.{ℕ, ◌-◌, ◌≤◌}
 use lib.ListN.{get_or}
