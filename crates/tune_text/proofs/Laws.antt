@@ -1,6 +1,7 @@
 -- Laws that the proofs of several functions cite.
 pub mod Scanning
 pub mod Cutting
+pub mod Numbering
 pub mod Decimals
 pub mod Writing
 pub mod Reading
