@@ -2,6 +2,7 @@
 pub mod Scanning
 pub mod Cutting
 pub mod Numbering
+pub mod Splitting
 pub mod Decimals
 pub mod Writing
 pub mod Reading
