@@ -1,9 +1,8 @@
 -- `tune_text::fill` meets its contract: a step makes the run one longer and less is left, and the run at the end of the loop is what was promised.
 -- Assumes nothing.
-use Rattle.std.proofs.Common.{arith, sym, ◌∙◌, ◌≡◌, ◌+◌, ◌≤◌, length, false}
+use Rattle.std.proofs.Common.{arith, sym, ◌∙◌, ◌+◌, ◌≤◌, length}
 use borrow.Author.Tests.{leb-true, not-true}
 use mathlib.Core.Bool.{and-eq-true_iff}
-use Rattle.tune_text.specs.Reading.{is_done}
 use Rattle.tune_text.proofs.Laws.Running.{falls}
 use Rattle.tune_text.proofs.Laws.Lengths.{short}
 use Rattle.tune_text.proofs.Laws.Filling.{run_none, run_more}

@@ -1,5 +1,4 @@
 -- `tune_text::fill`: so many steps were made, and the buffer has their lines. The measure is how many steps are left.
-use Rattle.std.proofs.Common.{◌≡◌, length}
 use Rattle.tune_text.specs.Steps.{steps_left}
 use Rattle.tune_text.proofs.Laws.Filling.{Run}
 use Rattle.tune_text.proofs.fill.Given as goal

@@ -11,10 +11,10 @@ returns-then-field-least c =
     let f = form c.args.base c.args.least c.args.most in
     let xs = c.args.field.now in
     let no : is_number f xs ≡ false =
-        elim c.then-field-least.branch [
-          then-field-least-via-then-field-least w ↦ short f xs w.if-field-least.true
-        | then-field-least-via-else-field-least+then-field-most w ↦ long f xs w.if-field-most.true
-        ] in
+    elim c.then-field-least.branch [
+      | then-field-least-via-then-field-least w ↦ short f xs w.if-field-least.true
+      | then-field-least-via-else-field-least+then-field-most w ↦ long f xs w.if-field-most.true
+    ] in
     sym (number_ill f xs no)
 
 pub returns-then-d-base : goal.returns-then-d-base

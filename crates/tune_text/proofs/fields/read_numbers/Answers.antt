@@ -4,7 +4,7 @@ use Rattle.std.proofs.Common.{arith, refl, sym, ◌≡◌}
 use borrow.Author.Tests.{not-true, not-false}
 use Rattle.tune_text.specs.Fields.{form}
 use Rattle.tune_text.specs.Handed.{numbers_read}
-use Rattle.tune_text.proofs.Laws.Splitting.{Going, Turn, bad, outcome-first, refuses-form, refuses-count, goes_on}
+use Rattle.tune_text.proofs.Laws.Splitting.{Turn, bad, outcome-first, refuses-form, refuses-count, goes_on}
 use Rattle.tune_text.proofs.fields.read_numbers.Goals as goal
 use Rattle.tune_text.proofs.fields.read_numbers.Goals.{then-not-number-via-then-not-number, then-not-number-via-else-not-number+then-last-end}
 
@@ -32,10 +32,10 @@ returns-then-not-number c =
       got = c.read_number-number.ensures;
     } in
     let malformed : numbers_read f c.args.k xs ≡ bad =
-        elim c.then-not-number.branch [
-          then-not-number-via-then-not-number w ↦ refuses-form f c.args.k xs at.values at.from at.i c.find-end.result n t (not-true n.well w.if-not-number.true)
-        | then-not-number-via-else-not-number+then-last-end w ↦ refuses-count f c.args.k xs at.values at.from at.i c.find-end.result n t w.if-last-end.true
-        ] in
+    elim c.then-not-number.branch [
+      | then-not-number-via-then-not-number w ↦ refuses-form f c.args.k xs at.values at.from at.i c.find-end.result n t (not-true n.well w.if-not-number.true)
+      | then-not-number-via-else-not-number+then-last-end w ↦ refuses-count f c.args.k xs at.values at.from at.i c.find-end.result n t w.if-last-end.true
+    ] in
     sym malformed
 
 pub loop-i-preserved : goal.loop-i-preserved

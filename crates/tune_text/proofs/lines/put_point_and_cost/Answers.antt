@@ -15,6 +15,6 @@ put-spaced-requires c =
 pub put_last-requires : goal.put_last-requires
 put_last-requires c =
     let room : Room 22 c.put_point-at_point.result =
-        room_more c.args.text 158 c.requires c.put_point-at_point.result (coordinates (min c.args.n 8) c.args.point) c.put_point-at_point.ensures 22
-        (omega (arith, coordinates_length (min c.args.n 8) c.args.point)) in
+    room_more c.args.text 158 c.requires c.put_point-at_point.result (coordinates (min c.args.n 8) c.args.point) c.put_point-at_point.ensures 22
+    (omega (arith, coordinates_length (min c.args.n 8) c.args.point)) in
     room_more c.put_point-at_point.result 22 room c.put-spaced.result (space ∷ []) c.put-spaced.ensures 21 (omega arith)

@@ -1,5 +1,5 @@
 -- `tune_text::scan::find` meets its contract: a byte that is passed is not b, and the loop stops at b or at the end. Assumes nothing.
-use Rattle.std.proofs.Common.{arith, ◌∙◌, sym, ◌≡◌, ◌+◌}
+use Rattle.std.proofs.Common.{arith, ◌∙◌}
 use Rattle.tune_text.proofs.Laws.Scanning.{index_none, index_here, index_next}
 use Rattle.tune_text.proofs.scan.find.Goals as goal
 
