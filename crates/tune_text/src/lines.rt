@@ -25,11 +25,11 @@ fn put(text: Text, word: &[u8]) -> Text
 {
     let mut all = text.bytes;
     let from = text.count;
-    let to = from + word.len();
-    all[from..to].copy_from_slice(word);
+    let n = word.len();
+    all[from..from + n].copy_from_slice(word);
     Text {
         bytes: all,
-        count: to,
+        count: from + n,
     }
 }
 

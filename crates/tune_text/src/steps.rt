@@ -76,7 +76,6 @@ pub(super) fn collect(text: Text, buffer: &mut [u8], count: usize) -> usize
 {
     let line = text.bytes;
     let k = text.count;
-    let to = count + k;
-    buffer[count..to].copy_from_slice(&line[..k]);
-    to
+    buffer[count..count + k].copy_from_slice(&line[..k]);
+    count + k
 }
