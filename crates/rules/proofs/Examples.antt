@@ -12,6 +12,7 @@ use Rattle.rules.specs.Calls.{in_order, all_costs, sound, ask_verdict, tell_verd
 use Rattle.rules.specs.Examples.{given, paper}
 use Rattle.rules.specs.Cases.{cases_given, cases_stated, openings_given, openings_stated}
 use Rattle.rules.specs.Answers.{endings_given, endings_stated, refusals_given, refusals_stated, numbers_given, numbers_stated, axes_given, axes_stated}
+use Rattle.rules.specs.Further.{trials_given, trials_stated, pieces_given, pieces_stated, best_given, best_stated}
 
 -- to unfold this is to compute with floats
 unfoldable pub floats : Unit {0}
@@ -53,3 +54,15 @@ refusal_numbers = refl
 
 pub refusal_axes : axes_given ≡ axes_stated
 refusal_axes = refl
+
+pub further_trials : trials_given ≡ trials_stated
+unfolding trials_given trials_stated rules
+further_trials = refl
+
+pub further_pieces : pieces_given ≡ pieces_stated
+unfolding pieces_given pieces_stated rules
+further_pieces = refl
+
+pub further_refusals : best_given ≡ best_stated
+unfolding best_given best_stated rules in_order all_costs sound ask_verdict
+further_refusals = refl
