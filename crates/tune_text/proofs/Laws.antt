@@ -7,6 +7,7 @@ pub mod Decimals
 pub mod Writing
 pub mod Reading
 pub mod Stepping
+pub mod Ending
 pub mod Lengths
 pub mod Running
 pub mod Filling

@@ -50,7 +50,7 @@ step_cases bytes s P done long over line last =
     (λ e. long d (leb-false _ _ e)))
 
 -- a step once all is done prints nothing and changes nothing
-step_done : (bytes : List ℕ) (s : State) → is_done s.progress.stage ≡ true → stepping bytes s ≡ record { state = s; text = text_of [] }
+pub step_done : (bytes : List ℕ) (s : State) → is_done s.progress.stage ≡ true → stepping bytes s ≡ record { state = s; text = text_of [] }
 unfolding stepping
 step_done bytes s d = rw d
 
