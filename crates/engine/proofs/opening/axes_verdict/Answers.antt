@@ -1,4 +1,4 @@
--- `engine::opening::axes_verdict` meets its contract. Its loop keeps that the axes left decide the verdict. Assumes nothing.
+-- `engine::opening::axes_verdict` meets its contract, by what its loop keeps. Assumes nothing.
 use mathlib.Core.Path.{◌≡◌, sym, ◌∙◌}
 use Prim.Native.Nat.{◌-◌}
 use native.Mathlib.Omega.{arith}

@@ -1,4 +1,4 @@
--- `engine::opening::axes_verdict` meets its contract. Its loop keeps that the axes left decide the verdict. Assumes nothing.
+-- The loop of `engine::opening::axes_verdict` keeps that the axes left decide the verdict.
 use mathlib.Core.Path.{◌≡◌}
 use Prim.Native.Nat.{◌-◌, ◌≤◌}
 use Rattle.rules.specs.Opening.{axes_checks}

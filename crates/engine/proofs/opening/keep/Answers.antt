@@ -1,4 +1,4 @@
--- `engine::opening::keep` meets its contract. Its loop keeps `Cleared`: records n up to i are zero records. Assumes nothing.
+-- `engine::opening::keep` meets its contract, by what its loop keeps. Assumes nothing.
 use borrow.Author.Rules.{rules}
 use Rattle.engine.proofs.Laws.Filling.{cleared_none, cleared_more, cleared_all}
 use Rattle.engine.proofs.opening.keep.Goals as goal

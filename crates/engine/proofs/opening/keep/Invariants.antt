@@ -1,4 +1,4 @@
--- `engine::opening::keep` meets its contract. Its loop keeps `Cleared`: records n up to i are zero records. Assumes nothing.
+-- The loop of `engine::opening::keep` keeps `Cleared`: records n up to i are zero records.
 use Prim.Native.Nat.{◌-◌}
 use Rattle.engine.proofs.Laws.Filling.{Cleared}
 use Rattle.engine.proofs.opening.keep.Given as goal

@@ -1,4 +1,4 @@
--- `engine::opening::starts` meets its contract. Its loop keeps that out has the starts of the first i records. Assumes nothing.
+-- `engine::opening::starts` meets its contract, by what its loop keeps. Assumes nothing.
 use mathlib.Core.Path.{◌≡◌, refl, ◌∙◌}
 use mathlib.Core.List.{List, map, append-nil}
 use Prim.Native.Nat.{ℕ, ◌+◌}

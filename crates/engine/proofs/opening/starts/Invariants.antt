@@ -1,4 +1,4 @@
--- `engine::opening::starts` meets its contract. Its loop keeps that out has the starts of the first i records. Assumes nothing.
+-- The loop of `engine::opening::starts` keeps that out has the starts of the first i records.
 use mathlib.Core.Path.{◌≡◌}
 use mathlib.Core.List.{map}
 use Prim.Native.Nat.{ℕ, ◌+◌, ◌-◌, ◌≤◌}

@@ -1,4 +1,4 @@
--- `engine::place::point_at` meets its contract. Its loop keeps that out has the first j numbers of place i. Assumes nothing.
+-- `engine::place::point_at` meets its contract, by what its loop keeps. Assumes nothing.
 use mathlib.Core.Path.{◌≡◌, refl}
 use mathlib.Core.List.{append-nil}
 use Prim.Native.Nat.{ℕ, ◌+◌, ◌*◌}

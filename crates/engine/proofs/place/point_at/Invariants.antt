@@ -1,4 +1,4 @@
--- `engine::place::point_at` meets its contract. Its loop keeps that out has the first j numbers of place i. Assumes nothing.
+-- The loop of `engine::place::point_at` keeps that out has the first j numbers of place i.
 use mathlib.Core.Path.{◌≡◌}
 use Prim.Native.Nat.{ℕ, ◌+◌, ◌-◌, ◌*◌, ◌≤◌, ◌<◌}
 use lib.ListN.{get_or}

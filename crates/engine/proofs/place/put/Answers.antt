@@ -1,4 +1,4 @@
--- `engine::place::put` meets its contract. Its loop keeps that the point's first j numbers stand from 8 * i on. Assumes nothing.
+-- `engine::place::put` meets its contract, by what its loop keeps. Assumes nothing.
 use mathlib.Core.Path.{◌≡◌, refl}
 use Prim.Native.Nat.{◌*◌}
 use native.Mathlib.Numerals.{add-one}

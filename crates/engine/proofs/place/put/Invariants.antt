@@ -1,4 +1,4 @@
--- `engine::place::put` meets its contract. Its loop keeps that the point's first j numbers stand from 8 * i on. Assumes nothing.
+-- The loop of `engine::place::put` keeps that the point's first j numbers stand from 8 * i on.
 use mathlib.Core.Path.{◌≡◌}
 use Prim.Native.Nat.{◌-◌, ◌*◌, ◌≤◌, ◌<◌}
 use lib.Seq.{paste}

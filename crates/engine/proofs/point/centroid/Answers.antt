@@ -1,4 +1,4 @@
--- `engine::point::centroid` meets its contract. Its loop keeps that the sum is that of places 1 to i + 1. Assumes nothing.
+-- `engine::point::centroid` meets its contract, by what its loop keeps. Assumes nothing.
 use mathlib.Core.Path.{◌≡◌}
 use Prim.Native.Nat.{◌-◌}
 use native.Mathlib.Numerals.{add-one}

@@ -1,4 +1,4 @@
--- `engine::point::centroid` meets its contract. Its loop keeps that the sum is that of places 1 to i + 1. Assumes nothing.
+-- The loop of `engine::point::centroid` keeps that the sum is that of places 1 to i + 1.
 use mathlib.Core.Path.{◌≡◌}
 use Prim.Native.Nat.{◌+◌, ◌-◌, ◌≤◌}
 use Rattle.rules.specs.Trial.{entry, sum_to}

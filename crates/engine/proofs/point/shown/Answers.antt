@@ -1,4 +1,4 @@
--- `engine::point::shown` meets its contract. Its loop keeps `Cleared`: coordinates n up to a are 0. Assumes nothing.
+-- `engine::point::shown` meets its contract, by what its loop keeps. Assumes nothing.
 use borrow.Author.Rules.{rules}
 use Rattle.rules.specs.Binary64.{0ᶠ}
 use Rattle.engine.proofs.Laws.Filling.{cleared_none, cleared_more, cleared_all}

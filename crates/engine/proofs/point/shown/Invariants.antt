@@ -1,4 +1,4 @@
--- `engine::point::shown` meets its contract. Its loop keeps `Cleared`: coordinates n up to a are 0. Assumes nothing.
+-- The loop of `engine::point::shown` keeps `Cleared`: coordinates n up to a are 0.
 use Prim.Native.Nat.{◌-◌}
 use Rattle.rules.specs.Binary64.{0ᶠ}
 use Rattle.engine.proofs.Laws.Filling.{Cleared}

@@ -1,4 +1,4 @@
--- `engine::point::trial` meets its contract: the loop fills the coordinates as `coordinate_by` gives them, which are those of the rules. Assumes nothing.
+-- The loop of `engine::point::trial` keeps that out has the first a coordinates of the trial.
 use mathlib.Core.Path.{◌≡◌}
 use Prim.Native.Nat.{ℕ, ◌-◌, ◌≤◌}
 use lib.ListN.{get_or}

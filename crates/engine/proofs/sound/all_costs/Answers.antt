@@ -1,4 +1,4 @@
--- `engine::sound::all_costs` meets its contract. Its loop keeps that no cost before place i is above the largest. Assumes nothing.
+-- `engine::sound::all_costs` meets its contract, by what its loop keeps. Assumes nothing.
 use mathlib.Core.Path.{sym}
 use Prim.Native.Nat.{ℕ, ◌≤◌}
 use native.Mathlib.Omega.{arith}

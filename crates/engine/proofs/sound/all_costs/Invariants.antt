@@ -1,4 +1,4 @@
--- `engine::sound::all_costs` meets its contract. Its loop keeps that no cost before place i is above the largest. Assumes nothing.
+-- The loop of `engine::sound::all_costs` keeps that no cost before place i is above the largest.
 use Prim.Native.Nat.{ℕ, ◌-◌, ◌≤◌, ◌<◌}
 use lib.ListN.{get_or}
 use Rattle.rules.specs.Numbers.{max_cost}

@@ -1,4 +1,4 @@
--- `engine::sound::in_order` meets its contract. Its loop keeps that no cost up to place i is below the one before it. Assumes nothing.
+-- `engine::sound::in_order` meets its contract, by what its loop keeps. Assumes nothing.
 use mathlib.Core.Path.{◌≡◌, sym}
 use mathlib.Core.List.{[]}
 use Prim.Native.Nat.{ℕ, ◌-◌, ◌≤◌}

@@ -1,4 +1,4 @@
--- `engine::sound::in_order` meets its contract. Its loop keeps that no cost up to place i is below the one before it. Assumes nothing.
+-- The loop of `engine::sound::in_order` keeps that no cost up to place i is below the one before it.
 use Prim.Native.Nat.{ℕ, ◌-◌, ◌≤◌, ◌<◌}
 use lib.ListN.{get_or}
 use Rattle.engine.proofs.sound.in_order.Given as goal

@@ -1,4 +1,4 @@
--- `engine::stop::all_within` meets its contract. Its loop keeps that the places from i on decide the whole test. Assumes nothing.
+-- `engine::stop::all_within` meets its contract, by what its loop keeps. Assumes nothing.
 use mathlib.Core.Path.{◌≡◌, refl, sym, ◌∙◌}
 use Prim.Native.Nat.{◌+◌}
 use native.Mathlib.Omega.{arith}

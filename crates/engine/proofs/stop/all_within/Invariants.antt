@@ -1,4 +1,4 @@
--- `engine::stop::all_within` meets its contract. Its loop keeps that the places from i on decide the whole test. Assumes nothing.
+-- The loop of `engine::stop::all_within` keeps that the places from i on decide the whole test.
 use mathlib.Core.Path.{◌≡◌}
 use mathlib.Core.List.{List}
 use Prim.Native.Nat.{ℕ, ◌+◌, ◌-◌, ◌≤◌}

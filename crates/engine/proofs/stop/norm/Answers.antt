@@ -1,4 +1,4 @@
--- `engine::stop::norm` meets its contract. Its loop keeps that the sum is that over the first a axes. Assumes nothing.
+-- `engine::stop::norm` meets its contract, by what its loop keeps. Assumes nothing.
 use mathlib.Core.Path.{◌≡◌, refl}
 use native.Mathlib.Numerals.{add-one}
 use native.Mathlib.Omega.{arith}

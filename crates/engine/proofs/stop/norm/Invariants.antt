@@ -1,4 +1,4 @@
--- `engine::stop::norm` meets its contract. Its loop keeps that the sum is that over the first a axes. Assumes nothing.
+-- The loop of `engine::stop::norm` keeps that the sum is that over the first a axes.
 use mathlib.Core.Path.{◌≡◌}
 use Prim.Native.Nat.{◌-◌, ◌≤◌}
 use Rattle.rules.specs.Stop.{norm}

@@ -1,4 +1,4 @@
--- `engine::stop::sums_of` meets its contract. Its loop keeps that the sums are those of the first i costs, all in range. Assumes nothing.
+-- `engine::stop::sums_of` meets its contract, by what its loop keeps. Assumes nothing.
 use mathlib.Core.Path.{◌≡◌, refl, sym}
 use mathlib.Core.List.{map-id}
 use Prim.Native.Nat.{ℕ, ◌<◌}

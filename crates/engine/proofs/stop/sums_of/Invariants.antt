@@ -1,4 +1,4 @@
--- `engine::stop::sums_of` meets its contract. Its loop keeps that the sums are those of the first i costs, all in range. Assumes nothing.
+-- The loop of `engine::stop::sums_of` keeps that the sums are those of the first i costs, all in range.
 use mathlib.Core.Path.{◌≡◌}
 use mathlib.Core.List.{map}
 use Prim.Native.Nat.{◌-◌, ◌≤◌}

@@ -1,4 +1,4 @@
--- `engine::transition::shrink_movement` meets its contract. Its loop keeps that the sum is how far places 2 to k + 1 move. Assumes nothing.
+-- `engine::transition::shrink_movement` meets its contract, by what its loop keeps. Assumes nothing.
 use mathlib.Core.List.{List}
 use mathlib.Core.Path.{◌≡◌, refl, sym, ◌∙◌}
 use Prim.Native.Nat.{ℕ, suc}

@@ -1,4 +1,4 @@
--- `engine::transition::shrink_movement` meets its contract. Its loop keeps that the sum is how far places 2 to k + 1 move. Assumes nothing.
+-- The loop of `engine::transition::shrink_movement` keeps that the sum is how far places 2 to k + 1 move.
 use mathlib.Core.Path.{◌≡◌}
 use Prim.Native.Nat.{ℕ, suc, ◌-◌, ◌≤◌}
 use Rattle.rules.specs.Stop.{movement}
