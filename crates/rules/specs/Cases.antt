@@ -34,7 +34,7 @@ two_axes x y = x ∷ y ∷ replicate 6 zero_axis
 abbrev pub case_search : Float → Float → RuleChoice → Search
 case_search start hi rule = fresh 2 (two_axes (case_axis start hi) (case_axis start hi)) rule usual 100
 
--- the trial that `caseSearch` asks after the costs cs
+-- the trial that `case_search` asks after the costs cs
 abbrev pub trial_after : Float → Float → RuleChoice → List ℕ → Shows
 trial_after start hi rule cs = next (run (case_search start hi rule) cs)
 
@@ -93,7 +93,7 @@ cases_given =
     ∷ next program_search ∷ next (run program_search (4 ∷ [])) ∷ next (run program_search (4 ∷ 6 ∷ [])) ∷ next (run program_search (4 ∷ 6 ∷ 4 ∷ []))
     ∷ []
 
--- what document 01 says of each case of `casesGiven`, in its order
+-- what document 01 says of each case of `cases_given`, in its order
 unfoldable pub cases_stated : List Shows
 cases_stated =
     asks 0x4008_0000_0000_0000 0x4008_0000_0000_0000
@@ -131,7 +131,7 @@ with_chi chi = record { alpha = 1ᶠ; chi = chi; beta = bits ½; sigma = bits ½
 abbrev pub verdict_on : Axis → Axis → RuleChoice → Verdict
 verdict_on x y rule = open_verdict 2 (two_axes x y) rule usual 100
 
--- the verdict on the opening of `caseSearch`, with budget 100
+-- the verdict on the opening of `case_search`, with budget 100
 abbrev pub case_verdict : Float → Float → RuleChoice → Verdict
 case_verdict start hi rule = verdict_on (case_axis start hi) (case_axis start hi) rule
 
@@ -170,7 +170,7 @@ openings_given =
     ∷ verdict_with Unnamed usual 2 ∷ verdict_with Unnamed usual 3 ∷ verdict_with Unnamed usual 1000000 ∷ verdict_with Unnamed usual 1000001
     ∷ []
 
--- what the table says of each opening of `openingsGiven`, in its order
+-- what the table says of each opening of `openings_given`, in its order
 unfoldable pub openings_stated : List Verdict
 openings_stated =
     Accepted

@@ -3,13 +3,13 @@
 
 #![tactic(auto)]
 
-// The largest cost, which the camera tells for a dark frame; `maxCost` of specs/Numbers.
+// The largest cost, which the camera tells for a dark frame; `max_cost` of specs/Numbers.
 pub const MAX_COST: u64 = 16777215;
 
-// The largest budget; `maxBudget` of specs/Numbers.
+// The largest budget; `max_budget` of specs/Numbers.
 pub const MAX_BUDGET: u64 = 1000000;
 
-// The largest threshold of the rule spread; `maxSpread` of specs/Numbers.
+// The largest threshold of the rule spread; `max_spread` of specs/Numbers.
 pub const MAX_SPREAD: u64 = 4294967295;
 
 // The usual coefficients; `usual` of specs/Numbers.

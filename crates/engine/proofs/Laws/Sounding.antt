@@ -28,6 +28,7 @@ use Rattle.rules.proofs.Laws.Order.{in_order_lem, from_in_order, ordered_at}
 use Rattle.engine.specs.Places.{Capped}
 use Rattle.engine.specs.Ready.{Fits, Ready}
 use Rattle.engine.specs.HeldBy.{held_of, places_of, sound_by}
+use Rattle.engine.specs.declared.sound.Held.{Held}
 use Rattle.engine.proofs.Laws.Placing.{length_unpack}
 
 -- ---- tests
@@ -117,6 +118,10 @@ order_unless false s m = order_by s m
 pub sound_by_lem : (s : Search) → sound_by (held_of s) ≡ sound s
 unfolding sound
 sound_by_lem s = rw (order_unless (eqb s.counts.builds 0) s.standing (s.setup.n + 1), order_by s.gathered (gathered_in s.phase)) (simp and_assoc)
+
+-- so a test r of the parts h of s shows it
+pub sound_as : (s : Search) {r : Bool} {h : Held} → r ≡ sound_by h → h ≡ held_of s → r ≡ sound s
+sound_as s e f = e ∙ ap sound_by f ∙ sound_by_lem s
 
 -- ---- what the test for a sound search tells
 

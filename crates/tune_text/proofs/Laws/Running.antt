@@ -60,11 +60,11 @@ step_done bytes s d = rw d
 none_left : (bytes : List ℕ) (s : State) → is_done s.progress.stage ≡ true → steps_left bytes s ≡ 0
 none_left bytes s d = rw d
 
--- before all is done, `stepsLeft` is one more than the bytes that are left
+-- before all is done, `steps_left` is one more than the bytes that are left
 pub some_left : (bytes : List ℕ) (s : State) → is_done s.progress.stage ≡ false → steps_left bytes s ≡ suc (length bytes - s.position)
 some_left bytes s d = rw d
 
--- `stepsLeft` is at most one more than the bytes that are left
+-- `steps_left` is at most one more than the bytes that are left
 pub few_left : (bytes : List ℕ) (s : State) → steps_left bytes s ≤ suc (length bytes - s.position)
 few_left bytes s = cond_elim (λ (n : ℕ). n ≤ suc (length bytes - s.position)) (is_done s.progress.stage) (λ e. omega arith) (λ e. omega arith)
 
@@ -76,7 +76,7 @@ left_done bytes s = done (is_done s.progress.stage)
     done true h = refl
     done false h = absurd (omega arith)
 
--- each step before all is done makes `stepsLeft` less
+-- each step before all is done makes `steps_left` less
 pub falls : (bytes : List ℕ) (s : State) → is_done s.progress.stage ≡ false → steps_left bytes (stepping bytes s).state < steps_left bytes s
 falls bytes s d =
     rw (some_left bytes s d)

@@ -1,5 +1,4 @@
 -- `engine::change::finish` meets its contract, by those of the four functions that it calls. Assumes nothing.
-use borrow.Author.Rules.{rules}
 use Rattle.engine.proofs.change.finish.Goals as goal
 
 pub returns : goal.returns

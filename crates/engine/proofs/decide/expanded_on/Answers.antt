@@ -1,6 +1,5 @@
 -- `engine::decide::expanded_on` meets its contract. Where e is not lower, r is the trial of the phase reflecting. Assumes nothing.
 use borrow.Author.Tests.{lt-ltb, le-ltb}
-use borrow.Author.Rules.{rules}
 use Rattle.engine.proofs.decide.expanded_on.Goals as goal
 
 pub returns-then-v-fr : goal.returns-then-v-fr

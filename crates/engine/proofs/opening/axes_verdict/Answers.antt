@@ -1,8 +1,7 @@
 -- `engine::opening::axes_verdict` meets its contract. Its loop keeps that the axes left decide the verdict. Assumes nothing.
 use mathlib.Core.Path.{◌≡◌, sym, ◌∙◌}
-use Prim.Native.Nat.{◌-◌, ◌≤◌}
+use Prim.Native.Nat.{◌-◌}
 use native.Mathlib.Omega.{arith}
-use borrow.Author.Rules.{rules}
 use Rattle.rules.specs.Opening.{axes_checks}
 use Rattle.rules.specs.declared.Verdict.TheVariants.{Accepted, Refused}
 use Rattle.engine.proofs.Laws.Opening.{axes_first}

@@ -1,11 +1,8 @@
 -- `engine::opening::axes_verdict` meets its contract. Its loop keeps that the axes left decide the verdict. Assumes nothing.
-use mathlib.Core.Path.{◌≡◌, sym, ◌∙◌}
+use mathlib.Core.Path.{◌≡◌}
 use Prim.Native.Nat.{◌-◌, ◌≤◌}
-use native.Mathlib.Omega.{arith}
-use borrow.Author.Rules.{rules}
 use Rattle.rules.specs.Opening.{axes_checks}
-use Rattle.rules.specs.declared.Verdict.TheVariants.{Accepted, Refused}
-use Rattle.engine.proofs.Laws.Opening.{axes_first}
+use Rattle.rules.specs.declared.Verdict.TheVariants.{Accepted}
 use Rattle.engine.proofs.opening.axes_verdict.Given as goal
 
 abbrev pub invariant-loop-left : goal.invariant-loop-left

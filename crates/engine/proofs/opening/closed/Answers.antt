@@ -1,5 +1,4 @@
 -- `engine::opening::closed` meets its contract, by those of `zero_axis` and `unread`. Assumes nothing.
-use borrow.Author.Rules.{rules}
 use Rattle.rules.specs.Opening.{closed}
 use Rattle.engine.proofs.opening.closed.Goals as goal
 

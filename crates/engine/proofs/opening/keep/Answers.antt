@@ -1,8 +1,6 @@
 -- `engine::opening::keep` meets its contract. Its loop keeps `Cleared`: records n up to i are zero records. Assumes nothing.
-use Prim.Native.Nat.{◌-◌}
-use native.Mathlib.Omega.{arith}
 use borrow.Author.Rules.{rules}
-use Rattle.engine.proofs.Laws.Filling.{Cleared, cleared_none, cleared_more, cleared_all}
+use Rattle.engine.proofs.Laws.Filling.{cleared_none, cleared_more, cleared_all}
 use Rattle.engine.proofs.opening.keep.Goals as goal
 
 pub loop-i-init : goal.loop-i-init

@@ -1,81 +1,77 @@
--- `engine::opening::open_verdict` meets its contract, check by check; `axes-with` joins those of the axes to the rest. Assumes nothing.
+-- `engine::opening::open_verdict` meets its contract, check by check; `axes_with` joins those of the axes to the rest. Assumes nothing.
 use mathlib.Core.Path.{◌≡◌, sym, ap, ◌∙◌}
 use mathlib.Core.Bool.{true, ◌&&◌}
-use mathlib.Core.Logic.{⊎_elim}
-use Prim.Native.Nat.{suc-le-suc, ◌+◌}
+use mathlib.Core.List.{List}
+use Prim.Native.Nat.{ℕ, suc-le-suc, ◌+◌, ◌≤◌}
 use native.Mathlib.Numerals.{add-one}
 use lib.Dec.{leb}
-use borrow.Author.Rules.{rules}
-use borrow.Author.Tests.{ltb-true, ltb-false, le-leb, lt-leb, not-true, not-false}
+use borrow.Author.Tests.{le-leb, lt-leb}
 use Rattle.rules.specs.Numbers.{max_budget}
 use Rattle.rules.specs.Refusals.{check}
 use Rattle.rules.specs.Opening.{axes_checks, in_coefficients, in_threshold, rule_of, open_verdict}
+use Rattle.rules.specs.declared.Axis.{Axis}
+use Rattle.rules.specs.declared.Coefficients.{Coefficients}
+use Rattle.rules.specs.declared.RuleChoice.{RuleChoice}
+use Rattle.rules.specs.declared.Refusal.TheVariants.{BadBudget}
 use Rattle.rules.specs.declared.Verdict.{Verdict}
 use Rattle.rules.specs.declared.Verdict.TheVariants.{Accepted, Refused}
-use Rattle.rules.specs.declared.Refusal.TheVariants.{BadBudget}
 use Rattle.engine.proofs.Laws.Opening.{axes_with}
 use Rattle.engine.proofs.opening.open_verdict.Goals as goal
+use Rattle.engine.proofs.opening.open_verdict.Goals.{then-n-lt1-via-then-n-lt1, then-n-lt1-via-else-n-lt1+then-n-gt8}
+use Rattle.engine.proofs.opening.open_verdict.Goals.{else-n-budget-via-then-n-budget+else-budget-le-MAX_BUDGET, else-n-budget-via-else-n-budget}
 
--- check 1 has passed
-passed-1 : (c : tie.Else2) → let n = c.args.n in (leb 1 n && leb n 8) ≡ true
-passed-1 c =
-    let n = c.args.n in
-    rw (le-leb 1 n c.if-n-lt1.false, le-leb n 8 (ltb-false 8 n c.if-n-gt8.false-raw))
-
--- the checks of the axes have passed
-passed-4 : (c : tie.After-enum-told) (v : Verdict) → let a = c.args in axes_checks a.n 0 a.axes v ≡ v
-passed-4 c v =
-    let a = c.args in
-    axes_with a.n 0 a.axes Accepted v (sym c.enum_told-1.given.1 ∙ c.axes_verdict-verdict.ensures)
-
--- check 5 has passed
-passed-5 : (c : tie.Else3) → in_coefficients c.args.c ≡ true
-passed-5 c = sym c.in_coefficients.ensures ∙ not-false c.in_coefficients.result c.if-not-in_coefficients.false-raw
-
--- the test of check 6
-threshold : (c : tie.After-in-threshold) → c.in_threshold.result ≡ in_threshold (rule_of c.args.choice)
-threshold c = c.in_threshold.ensures ∙ ap in_threshold c.rule_of.ensures
-
--- check 6 has passed
-passed-6 : (c : tie.Else4) → let a = c.args in open_verdict a.n a.axes a.choice a.c a.budget ≡ check (leb (a.n + 1) a.budget && leb a.budget max_budget) BadBudget Accepted
-unfolding open_verdict
-passed-6 c =
-    let axes = fifth in
-    rw (passed-1 axes, passed-4 axes, passed-5 fifth, ← threshold c, not-false c.in_threshold.result c.if-not-in_threshold.false-raw)
+-- check 1 passes
+in_room : (n : ℕ) → 1 ≤ n → n ≤ 8 → (leb 1 n && leb n 8) ≡ true
+in_room n low high = rw (le-leb 1 n low, le-leb n 8 high)
 
 pub returns-then-n-lt1 : goal.returns-then-n-lt1
 unfolding open_verdict
 returns-then-n-lt1 c =
     let n = c.args.n in
-    ⊎_elim
-    (λ w. rw (lt-leb 1 n w.taken))
-    (λ w. rw (le-leb 1 n w.0.left, lt-leb n 8 (ltb-true 8 n w.1.taken)))
-    c.if-n-lt1.branch
+    elim c.then-n-lt1.branch [
+      | then-n-lt1-via-then-n-lt1 w ↦ rw (lt-leb 1 n w.if-n-lt1.true)
+      | then-n-lt1-via-else-n-lt1+then-n-gt8 w ↦ rw (le-leb 1 n w.if-n-lt1.false, lt-leb n 8 w.if-n-gt8.true)
+    ]
 
 pub returns-in-Refused : goal.returns-in-Refused
 unfolding open_verdict
 returns-in-Refused c =
     let a = c.args in
-    rw (passed-1 called, axes_with a.n 0 a.axes (Refused _) _ (sym c.verdict-1.given.1 ∙ c.axes_verdict-verdict.ensures))
+    rw (in_room a.n c.if-n-lt1.false c.if-n-gt8.false, axes_with a.n 0 a.axes (Refused _) _ c.in-Refused.ensures)
+
+-- the checks of the axes pass, whatever follows them
+axes_pass : (n : ℕ) (axes : List Axis) {u : Verdict} → u ≡ Accepted → u ≡ axes_checks n 0 axes Accepted → (v : Verdict) → axes_checks n 0 axes v ≡ v
+axes_pass n axes e f v = axes_with n 0 axes Accepted v (sym e ∙ f)
 
 pub returns-then-not-in_coefficients : goal.returns-then-not-in_coefficients
 unfolding open_verdict
 returns-then-not-in_coefficients c =
-    rw (passed-1 called, passed-4 called, ← c.in_coefficients.ensures, not-true c.in_coefficients.result c.if-not-in_coefficients.true-raw)
+    let a = c.args in
+    rw (in_room a.n c.if-n-lt1.false c.if-n-gt8.false, axes_pass a.n a.axes c.in_default.is c.axes_verdict-verdict.ensures _, ← c.in_coefficients.ensures, c.if-not-in_coefficients.true)
 
 pub returns-then-not-in_threshold : goal.returns-then-not-in_threshold
 unfolding open_verdict
 returns-then-not-in_threshold c =
-    let axes = fifth in
-    rw (passed-1 axes, passed-4 axes, passed-5 fifth, ← threshold c, not-true c.in_threshold.result c.if-not-in_threshold.true-raw)
+    let a = c.args in
+    rw (in_room a.n c.if-n-lt1.false c.if-n-gt8.false, axes_pass a.n a.axes c.in_default.is c.axes_verdict-verdict.ensures _, ← c.in_coefficients.ensures, c.if-not-in_coefficients.false, ← c.rule_of.ensures, ← c.in_threshold.ensures, c.if-not-in_threshold.true)
+
+-- checks 1 to 6 have passed
+last : (n : ℕ) (axes : List Axis) (choice : RuleChoice) (k : Coefficients) (budget : ℕ) → (leb 1 n && leb n 8) ≡ true → ((v : Verdict) → axes_checks n 0 axes v ≡ v) → in_coefficients k ≡ true → in_threshold (rule_of choice) ≡ true → open_verdict n axes choice k budget ≡ check (leb (n + 1) budget && leb budget max_budget) BadBudget Accepted
+unfolding open_verdict
+last n axes choice k budget e f g h = rw (e, f, g, h)
 
 pub returns-then-budget-le-MAX_BUDGET : goal.returns-then-budget-le-MAX_BUDGET
-returns-then-budget-le-MAX_BUDGET c = rw (passed-6 c, add-one, le-leb _ _ c.if-n-budget.true, c.if-budget-le-MAX_BUDGET.true-raw)
+returns-then-budget-le-MAX_BUDGET c =
+    let a = c.args in
+    let passed = last a.n a.axes a.choice a.c a.budget (in_room a.n c.if-n-lt1.false c.if-n-gt8.false) (axes_pass a.n a.axes c.in_default.is c.axes_verdict-verdict.ensures) (sym c.in_coefficients.ensures ∙ c.if-not-in_coefficients.false) (sym (c.in_threshold.ensures ∙ ap in_threshold c.rule_of.ensures) ∙ c.if-not-in_threshold.false) in
+    rw (passed, add-one, le-leb _ _ c.if-n-budget.true, le-leb _ _ c.if-budget-le-MAX_BUDGET.true)
 
 pub returns-else-n-budget : goal.returns-else-n-budget
 returns-else-n-budget c =
-    rw (passed-6 c, add-one)
-    (⊎_elim
-    (λ w. rw (le-leb _ _ w.0.taken, w.1.left))
-    (λ w. rw (lt-leb _ _ (suc-le-suc w.left)))
-    c.if-n-budget.branch)
+    let a = c.args in
+    let passed = last a.n a.axes a.choice a.c a.budget (in_room a.n c.if-n-lt1.false c.if-n-gt8.false) (axes_pass a.n a.axes c.in_default.is c.axes_verdict-verdict.ensures) (sym c.in_coefficients.ensures ∙ c.if-not-in_coefficients.false) (sym (c.in_threshold.ensures ∙ ap in_threshold c.rule_of.ensures) ∙ c.if-not-in_threshold.false) in
+    rw (passed, add-one)
+    (elim c.else-n-budget.branch [
+      | else-n-budget-via-then-n-budget+else-budget-le-MAX_BUDGET w ↦ rw (le-leb _ _ w.if-n-budget.true, lt-leb _ _ w.if-budget-le-MAX_BUDGET.false)
+      | else-n-budget-via-else-n-budget w ↦ rw (lt-leb _ _ (suc-le-suc w.if-n-budget.false))
+    ])

@@ -1,13 +1,13 @@
 -- `engine::opening::starts` meets its contract. Its loop keeps that out has the starts of the first i records. Assumes nothing.
 use mathlib.Core.Path.{◌≡◌, refl, ◌∙◌}
 use mathlib.Core.List.{List, map, append-nil}
-use Prim.Native.Nat.{ℕ, ◌+◌, ◌-◌, ◌≤◌}
+use Prim.Native.Nat.{ℕ, ◌+◌}
 use native.Mathlib.Omega.{arith}
 use lib.ListN.{get_or, length, length-map, get_or-map}
 use lib.Seq.{take_all}
 use lib.Ieee.{Float, nan}
 use borrow.Author.Rules.{rules}
-use Rattle.rules.specs.Simplex.{up_to, point}
+use Rattle.rules.specs.Simplex.{up_to}
 use Rattle.rules.specs.Trial.{no_axis}
 use Rattle.rules.specs.Opening.{start_of}
 use Rattle.rules.specs.declared.Axis.{Axis}

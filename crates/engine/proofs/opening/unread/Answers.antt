@@ -1,5 +1,4 @@
 -- `engine::opening::unread` meets its contract, by those of `blank` and `no_counts`. Assumes nothing.
-use borrow.Author.Rules.{rules}
 use Rattle.engine.proofs.opening.unread.Goals as goal
 
 pub returns : goal.returns

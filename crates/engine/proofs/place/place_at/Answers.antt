@@ -1,5 +1,4 @@
 -- `engine::place::place_at` meets its contract, by that of `point_at`. Assumes nothing.
-use borrow.Author.Rules.{rules}
 use Rattle.engine.proofs.place.place_at.Goals as goal
 
 pub returns : goal.returns

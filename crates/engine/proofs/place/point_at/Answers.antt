@@ -1,11 +1,11 @@
 -- `engine::place::point_at` meets its contract. Its loop keeps that out has the first j numbers of place i. Assumes nothing.
 use mathlib.Core.Path.{◌≡◌, refl}
 use mathlib.Core.List.{append-nil}
-use Prim.Native.Nat.{ℕ, ◌+◌, ◌-◌, ◌*◌, ◌≤◌, ◌<◌}
+use Prim.Native.Nat.{ℕ, ◌+◌, ◌*◌}
 use native.Mathlib.Omega.{arith}
 use lib.ListN.{get_or}
 use lib.Ieee.{nan}
-use Rattle.rules.specs.Simplex.{point, up_to}
+use Rattle.rules.specs.Simplex.{up_to}
 use Rattle.engine.proofs.Laws.Filling.{point_more, up_to_part}
 use Rattle.engine.proofs.place.point_at.Goals as goal
 

@@ -1,11 +1,11 @@
 -- `engine::place::put` meets its contract. Its loop keeps that the point's first j numbers stand from 8 * i on. Assumes nothing.
 use mathlib.Core.Path.{◌≡◌, refl}
-use Prim.Native.Nat.{◌-◌, ◌*◌, ◌≤◌, ◌<◌}
+use Prim.Native.Nat.{◌*◌}
 use native.Mathlib.Numerals.{add-one}
 use native.Mathlib.Omega.{arith}
 use borrow.Author.Rules.{rules}
 use lib.ListN.{length}
-use lib.Seq.{paste, paste-zero, paste-suc}
+use lib.Seq.{paste-zero, paste-suc}
 use lib.Ieee.{nan}
 use Rattle.engine.proofs.place.put.Goals as goal
 

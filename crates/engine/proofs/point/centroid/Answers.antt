@@ -1,10 +1,10 @@
 -- `engine::point::centroid` meets its contract. Its loop keeps that the sum is that of places 1 to i + 1. Assumes nothing.
 use mathlib.Core.Path.{◌≡◌}
-use Prim.Native.Nat.{◌+◌, ◌-◌, ◌≤◌}
+use Prim.Native.Nat.{◌-◌}
 use native.Mathlib.Numerals.{add-one}
 use native.Mathlib.Nat.{zero-add}
 use native.Mathlib.Omega.{arith}
-use Rattle.rules.specs.Trial.{entry, sum_to, centroid}
+use Rattle.rules.specs.Trial.{sum_to, centroid}
 use Rattle.engine.proofs.point.centroid.Goals as goal
 
 pub loop-i-init : goal.loop-i-init

@@ -1,10 +1,7 @@
 -- `engine::point::centroid` meets its contract. Its loop keeps that the sum is that of places 1 to i + 1. Assumes nothing.
 use mathlib.Core.Path.{◌≡◌}
 use Prim.Native.Nat.{◌+◌, ◌-◌, ◌≤◌}
-use native.Mathlib.Numerals.{add-one}
-use native.Mathlib.Nat.{zero-add}
-use native.Mathlib.Omega.{arith}
-use Rattle.rules.specs.Trial.{entry, sum_to, centroid}
+use Rattle.rules.specs.Trial.{entry, sum_to}
 use Rattle.engine.proofs.point.centroid.Given as goal
 
 abbrev pub invariant-loop-i : goal.invariant-loop-i

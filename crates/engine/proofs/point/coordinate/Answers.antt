@@ -3,7 +3,6 @@ use native.Mathlib.Nat.{zero-add}
 use native.Mathlib.Numerals.{add-one}
 use native.Mathlib.Omega.{arith}
 use lib.Ieee.{of_bits, div}
-use borrow.Author.Rules.{rules}
 use Rattle.engine.proofs.point.coordinate.Goals as goal
 
 pub overflow_mul-j : goal.overflow_mul-j

@@ -1,9 +1,7 @@
 -- `engine::point::shown` meets its contract. Its loop keeps `Cleared`: coordinates n up to a are 0. Assumes nothing.
-use Prim.Native.Nat.{◌-◌}
-use native.Mathlib.Omega.{arith}
 use borrow.Author.Rules.{rules}
 use Rattle.rules.specs.Binary64.{0ᶠ}
-use Rattle.engine.proofs.Laws.Filling.{Cleared, cleared_none, cleared_more, cleared_all}
+use Rattle.engine.proofs.Laws.Filling.{cleared_none, cleared_more, cleared_all}
 use Rattle.engine.proofs.point.shown.Goals as goal
 
 pub loop-a-init : goal.loop-a-init

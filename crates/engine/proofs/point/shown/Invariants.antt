@@ -1,9 +1,7 @@
 -- `engine::point::shown` meets its contract. Its loop keeps `Cleared`: coordinates n up to a are 0. Assumes nothing.
 use Prim.Native.Nat.{◌-◌}
-use native.Mathlib.Omega.{arith}
-use borrow.Author.Rules.{rules}
 use Rattle.rules.specs.Binary64.{0ᶠ}
-use Rattle.engine.proofs.Laws.Filling.{Cleared, cleared_none, cleared_more, cleared_all}
+use Rattle.engine.proofs.Laws.Filling.{Cleared}
 use Rattle.engine.proofs.point.shown.Given as goal
 
 abbrev pub invariant-loop-a : goal.invariant-loop-a

@@ -1,10 +1,9 @@
--- `engine::point::trial` meets its contract: the loop fills the coordinates as `coordinateBy` gives them, which are those of the rules. Assumes nothing.
+-- `engine::point::trial` meets its contract: the loop fills the coordinates as `coordinate_by` gives them, which are those of the rules. Assumes nothing.
 use mathlib.Core.Path.{◌≡◌, refl, ap, fun_ext}
-use Prim.Native.Nat.{ℕ, ◌-◌, ◌≤◌}
+use Prim.Native.Nat.{ℕ}
 use native.Mathlib.Omega.{arith}
-use lib.ListN.{get_or}
 use lib.Ieee.{Float}
-use Rattle.rules.specs.Trial.{no_axis, axis}
+use Rattle.rules.specs.Trial.{axis}
 use Rattle.rules.specs.Simplex.{up_to, point}
 use Rattle.engine.specs.Coordinate.{coordinate_by}
 use Rattle.engine.proofs.Laws.Coordinates.{coordinate_by_lem}

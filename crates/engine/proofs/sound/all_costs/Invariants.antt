@@ -1,12 +1,7 @@
 -- `engine::sound::all_costs` meets its contract. Its loop keeps that no cost before place i is above the largest. Assumes nothing.
-use mathlib.Core.Path.{sym}
 use Prim.Native.Nat.{ℕ, ◌-◌, ◌≤◌, ◌<◌}
-use native.Mathlib.Omega.{arith}
 use lib.ListN.{get_or}
-use borrow.Author.Rules.{rules}
 use Rattle.rules.specs.Numbers.{max_cost}
-use Rattle.rules.specs.Calls.{all_costs}
-use Rattle.engine.proofs.Laws.Sounding.{refuted, below_more, all_capped, capped_all}
 use Rattle.engine.proofs.sound.all_costs.Given as goal
 
 abbrev pub invariant-loop-i : goal.invariant-loop-i

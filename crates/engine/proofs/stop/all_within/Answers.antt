@@ -1,11 +1,7 @@
 -- `engine::stop::all_within` meets its contract. Its loop keeps that the places from i on decide the whole test. Assumes nothing.
-use borrow.Author.Rules.{rules}
 use mathlib.Core.Path.{◌≡◌, refl, sym, ◌∙◌}
-use mathlib.Core.List.{List}
-use Prim.Native.Nat.{ℕ, ◌+◌, ◌-◌, ◌≤◌}
+use Prim.Native.Nat.{◌+◌}
 use native.Mathlib.Omega.{arith}
-use lib.ListN.{drop}
-use Rattle.rules.specs.Simplex.{unpack}
 use Rattle.rules.specs.Stop.{all_within}
 use Rattle.engine.specs.Places.{simplex}
 use Rattle.engine.proofs.Laws.Placing.{rest_none}
@@ -17,21 +13,19 @@ loop-i-init c = (omega arith, omega arith, λ cs. refl)
 
 pub loop-i-preserved : goal.loop-i-preserved
 loop-i-preserved c =
-    let at = read in
-    let a = at.args in
+    let a = c.args in
     let made = c.distance in
-    let next = within_next a.n a.limit at.point_at.result in
+    let next = within_next a.n a.limit c.point_at-first.result in
     let far = rw c.point_at-other.ensures at made.ensures in
-    (omega arith, omega arith, λ cs. rw (at.loop.invariant.2 cs, next (simplex a.s.points cs) at.loop.i (a.n + 1) made.result (omega arith) far, c.if-distance-limit.true))
+    (omega arith, omega arith, λ cs. rw (c.loop-i.invariant.2 cs, next (simplex a.s.points cs) c.loop-i.i (a.n + 1) made.result (omega arith) far, c.if-distance-limit.true))
 
 pub returns-else-distance-limit : goal.returns-else-distance-limit
 returns-else-distance-limit c =
-    let at = read in
-    let a = at.args in
+    let a = c.args in
     let made = c.distance in
-    let next = within_next a.n a.limit at.point_at.result in
+    let next = within_next a.n a.limit c.point_at-first.result in
     let far = rw c.point_at-other.ensures at made.ensures in
-    rw (← at.point_at.ensures, at.loop.invariant.2 a.s.costs, next a.s at.loop.i (a.n + 1) made.result (omega arith) far, c.if-distance-limit.false)
+    rw (← c.point_at-first.ensures, c.loop-i.invariant.2 a.s.costs, next a.s c.loop-i.i (a.n + 1) made.result (omega arith) far, c.if-distance-limit.false)
 
 pub returns : goal.returns
 unfolding all_within

@@ -1,15 +1,11 @@
 -- `engine::stop::all_within` meets its contract. Its loop keeps that the places from i on decide the whole test. Assumes nothing.
-use borrow.Author.Rules.{rules}
-use mathlib.Core.Path.{◌≡◌, refl, sym, ◌∙◌}
+use mathlib.Core.Path.{◌≡◌}
 use mathlib.Core.List.{List}
 use Prim.Native.Nat.{ℕ, ◌+◌, ◌-◌, ◌≤◌}
-use native.Mathlib.Omega.{arith}
 use lib.ListN.{drop}
 use Rattle.rules.specs.Simplex.{unpack}
 use Rattle.rules.specs.Stop.{all_within}
 use Rattle.engine.specs.Places.{simplex}
-use Rattle.engine.proofs.Laws.Placing.{rest_none}
-use Rattle.engine.proofs.Laws.Stopping.{within_next}
 use Rattle.engine.proofs.stop.all_within.Given as goal
 
 abbrev pub invariant-loop-i : goal.invariant-loop-i

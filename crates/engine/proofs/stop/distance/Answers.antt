@@ -1,6 +1,5 @@
 -- `engine::stop::distance` meets its contract. Its loop keeps that the sum is that over the first a axes. Assumes nothing.
 use mathlib.Core.Path.{◌≡◌, refl}
-use Prim.Native.Nat.{◌-◌, ◌≤◌}
 use native.Mathlib.Numerals.{add-one}
 use native.Mathlib.Omega.{arith}
 use Rattle.rules.specs.Stop.{apart}

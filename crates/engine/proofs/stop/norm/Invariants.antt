@@ -1,8 +1,6 @@
 -- `engine::stop::norm` meets its contract. Its loop keeps that the sum is that over the first a axes. Assumes nothing.
-use mathlib.Core.Path.{◌≡◌, refl}
+use mathlib.Core.Path.{◌≡◌}
 use Prim.Native.Nat.{◌-◌, ◌≤◌}
-use native.Mathlib.Numerals.{add-one}
-use native.Mathlib.Omega.{arith}
 use Rattle.rules.specs.Stop.{norm}
 use Rattle.engine.proofs.stop.norm.Given as goal
 

@@ -1,5 +1,4 @@
--- `engine::stop::size_met` meets its contract, by the law `size-at`; the two ways differ in the limit. Assumes nothing.
-use borrow.Author.Rules.{rules}
+-- `engine::stop::size_met` meets its contract, by the law `size_at`; the two ways differ in the limit. Assumes nothing.
 use Rattle.engine.proofs.Laws.Stopping.{size_at}
 use Rattle.engine.proofs.stop.size_met.Goals as goal
 

@@ -1,12 +1,11 @@
 -- `engine::stop::sums_of` meets its contract. Its loop keeps that the sums are those of the first i costs, all in range. Assumes nothing.
 use mathlib.Core.Path.{◌≡◌, refl, sym}
-use mathlib.Core.List.{map, map-id}
-use Prim.Native.Nat.{ℕ, ◌-◌, ◌≤◌, ◌<◌}
+use mathlib.Core.List.{map-id}
+use Prim.Native.Nat.{ℕ, ◌<◌}
 use native.Mathlib.Nat.{mul-le-mul}
 use native.Mathlib.Omega.{arith}
-use lib.ListN.{length, take}
+use lib.ListN.{length}
 use Rattle.rules.specs.Stop.{total, square}
-use Rattle.engine.specs.Places.{Capped}
 use Rattle.engine.proofs.Laws.Stopping.{sum_more, plain_capped, squares_capped}
 use Rattle.engine.proofs.stop.sums_of.Goals as goal
 

@@ -1,5 +1,4 @@
 -- `engine::transition::accept` meets its contract. A search stays ready once the reading is noted. Assumes nothing.
-use borrow.Author.Rules.{rules}
 use Rattle.rules.specs.Accept.{accept}
 use Rattle.rules.specs.Trial.{trial}
 use Rattle.engine.proofs.Laws.Stepping.{ready_noted}

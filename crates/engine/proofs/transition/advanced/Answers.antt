@@ -1,5 +1,4 @@
 -- `engine::transition::advanced` meets its contract. What is decided and then done is what the rules do in one step. Assumes nothing.
-use borrow.Author.Rules.{rules}
 use Rattle.engine.proofs.Laws.Deciding.{decision_allowed, kept_low, acted_decided}
 use Rattle.engine.proofs.transition.advanced.Goals as goal
 

@@ -1,6 +1,5 @@
 -- `engine::transition::probed_on` meets its contract: the probe is lower, the last of its round, or neither. Assumes nothing.
 use borrow.Author.Tests.{eq-eqb, ne_eqb, lt-ltb, le-ltb}
-use borrow.Author.Rules.{rules}
 use Rattle.rules.specs.Accept.{probed_on}
 use Rattle.rules.specs.Simplex.{up_to, unpack, insert}
 use Rattle.engine.proofs.transition.probed_on.Goals as goal

@@ -1,12 +1,11 @@
 -- `engine::transition::shrink_movement` meets its contract. Its loop keeps that the sum is how far places 2 to k + 1 move. Assumes nothing.
 use mathlib.Core.List.{List}
 use mathlib.Core.Path.{◌≡◌, refl, sym, ◌∙◌}
-use Prim.Native.Nat.{ℕ, suc, ◌-◌, ◌≤◌}
+use Prim.Native.Nat.{ℕ, suc}
 use native.Mathlib.Numerals.{add-one}
 use native.Mathlib.Omega.{arith}
 use lib.Ieee.{Float}
 use lib.ListN.{length}
-use borrow.Author.Rules.{rules}
 use Rattle.rules.specs.Stop.{movement}
 use Rattle.rules.specs.Trial.{shrunk}
 use Rattle.rules.specs.Simplex.{up_to, point, place}

@@ -1,18 +1,10 @@
 -- `engine::transition::shrink_movement` meets its contract. Its loop keeps that the sum is how far places 2 to k + 1 move. Assumes nothing.
-use mathlib.Core.List.{List}
-use mathlib.Core.Path.{◌≡◌, refl, sym, ◌∙◌}
+use mathlib.Core.Path.{◌≡◌}
 use Prim.Native.Nat.{ℕ, suc, ◌-◌, ◌≤◌}
-use native.Mathlib.Numerals.{add-one}
-use native.Mathlib.Omega.{arith}
-use lib.Ieee.{Float}
-use lib.ListN.{length}
-use borrow.Author.Rules.{rules}
 use Rattle.rules.specs.Stop.{movement}
 use Rattle.rules.specs.Trial.{shrunk}
 use Rattle.rules.specs.Simplex.{up_to, point, place}
 use Rattle.rules.specs.Binary64.{0ᶠ}
-use Rattle.rules.proofs.Laws.Lists.{length_up_to}
-use Rattle.engine.proofs.Laws.Stopping.{movement_more, rest_points}
 use Rattle.engine.proofs.transition.shrink_movement.Given as goal
 
 abbrev pub invariant-loop-k : goal.invariant-loop-k

@@ -1,5 +1,4 @@
 -- `engine::transition::shrinking` meets its contract. The vertex at place 1, put among none, is alone. Assumes nothing.
-use borrow.Author.Rules.{rules}
 use Rattle.rules.specs.Simplex.{up_to, unpack, insert}
 use Rattle.engine.proofs.transition.shrinking.Goals as goal
 

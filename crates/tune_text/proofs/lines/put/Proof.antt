@@ -1,4 +1,4 @@
--- `tune_text::lines::put` meets its contract, by `put-known`: the bytes go over the zeros after the line's own. Assumes nothing.
+-- `tune_text::lines::put` meets its contract, by `put_known`: the bytes go over the zeros after the line's own. Assumes nothing.
 use native.Mathlib.Omega.{arith}
 use borrow.Author.Rules.{rules}
 use Rattle.tune_text.proofs.Laws.Writing.{length_bytes, put_known}
