@@ -87,8 +87,8 @@ fn compare(seed: u64, count: Option<u64>, gate_seed: bool) -> ExitCode {
         seed,
         scripts: count.unwrap_or(GATE_SCRIPTS),
         texts: count.unwrap_or(GATE_TEXTS),
-        replay: named("REPLAY", "target/bin/replay"),
-        tune: named("TUNE", "target/bin/tune"),
+        replay: named("REPLAY", "crates/replay/out/replay"),
+        tune: named("TUNE", "crates/tune/out/tune"),
     };
     let mut outcome = run.outcome();
     println!("seed {seed}");
