@@ -3,11 +3,11 @@ use super::openings::search;
 use super::play::{play_out, repeat};
 use super::show;
 use rules::{MAX_COST, Rule, RuleChoice};
-use std::io::Result;
+use std::io;
 
 // No rule named, spread 4: three equal costs meet it. The third probe is lower: a restart builds around it, its own
 // cost known.
-fn restarting(rt: &impl Print) -> Result<()> {
+fn restarting(rt: &impl Print) -> io::Result<()> {
     show::text(rt, b"a restart\n")?;
     let s = search(2, 2.0, 8.0, RuleChoice::Unnamed, 100);
     play_out(rt, s, &[10, 10, 10, 10, 10, 9])?;
@@ -15,7 +15,7 @@ fn restarting(rt: &impl Print) -> Result<()> {
 }
 
 // The budget is spent with a build, with r, with e, with an outside and with an inside point.
-fn spent_early(rt: &impl Print) -> Result<()> {
+fn spent_early(rt: &impl Print) -> io::Result<()> {
     show::text(rt, b"the budget in each phase\n")?;
     let three = search(2, 0.0, 8.0, RuleChoice::Unnamed, 3);
     play_out(rt, three, &[30, 20, 10])?;
@@ -28,7 +28,7 @@ fn spent_early(rt: &impl Print) -> Result<()> {
 }
 
 // The budget is spent amid a shrink, a probe round, at a lower probe and amid a restart's build.
-fn spent_late(rt: &impl Print) -> Result<()> {
+fn spent_late(rt: &impl Print) -> io::Result<()> {
     let six = search(2, 0.0, 8.0, RuleChoice::Unnamed, 6);
     play_out(rt, six, &[30, 20, 10, 30, 30, 9])?;
     let five = search(2, 2.0, 8.0, RuleChoice::Unnamed, 5);
@@ -39,7 +39,7 @@ fn spent_late(rt: &impl Print) -> Result<()> {
 }
 
 // The last probe of a full round settles the search, at the budget too.
-fn settled(rt: &impl Print) -> Result<()> {
+fn settled(rt: &impl Print) -> io::Result<()> {
     show::text(rt, b"settled, and settled at the budget\n")?;
     let s = search(1, 0.0, 8.0, RuleChoice::Unnamed, 100);
     play_out(rt, s, &[5, 5, 5, 5])?;
@@ -50,7 +50,7 @@ fn settled(rt: &impl Print) -> Result<()> {
 }
 
 // Dark frames for ever: with spread the search settles, and with a small size it shrinks and never folds.
-fn dark(rt: &impl Print, n: usize) -> Result<()> {
+fn dark(rt: &impl Print, n: usize) -> io::Result<()> {
     show::text(rt, b"dark frames, axes")?;
     show::number(rt, n as u64)?;
     show::text(rt, b"\n")?;
@@ -61,7 +61,7 @@ fn dark(rt: &impl Print, n: usize) -> Result<()> {
 }
 
 // The further cases.
-pub(super) fn all(rt: &impl Print) -> Result<()> {
+pub(super) fn all(rt: &impl Print) -> io::Result<()> {
     restarting(rt)?;
     spent_early(rt)?;
     spent_late(rt)?;

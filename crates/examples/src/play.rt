@@ -1,10 +1,10 @@
 // Costs told to a search one after the other, each trial asked for and shown before.
 use super::show;
 use rules::{Search, Verdict};
-use std::io::Result;
+use std::io;
 
 // One reading: the trial is asked for and shown, and this cost is told for it.
-fn reading(rt: &impl Print, s: Search, cost: u64) -> Result<Search> {
+fn reading(rt: &impl Print, s: Search, cost: u64) -> io::Result<Search> {
     let setup = s.setup;
     let asked = engine::ask(s);
     show::trial(rt, setup.n, asked, cost)?;
@@ -13,7 +13,7 @@ fn reading(rt: &impl Print, s: Search, cost: u64) -> Result<Search> {
 }
 
 // The search after these costs, told one after the other.
-pub(super) fn play(rt: &impl Print, s: Search, costs: &[u64]) -> Result<Search> {
+pub(super) fn play(rt: &impl Print, s: Search, costs: &[u64]) -> io::Result<Search> {
     let mut t = s;
     let mut i = 0;
     while i < costs.len() {
@@ -24,13 +24,13 @@ pub(super) fn play(rt: &impl Print, s: Search, costs: &[u64]) -> Result<Search> 
 }
 
 // Tells these costs and shows where the search stands then.
-pub(super) fn play_out(rt: &impl Print, s: Search, costs: &[u64]) -> Result<()> {
+pub(super) fn play_out(rt: &impl Print, s: Search, costs: &[u64]) -> io::Result<()> {
     let t = play(rt, s, costs)?;
     show::state(rt, t)
 }
 
 // One cost told until the search refuses to ask, at most this many times; it shows the refusal and where the search stands then.
-pub(super) fn repeat(rt: &impl Print, s: Search, cost: u64, times: u64) -> Result<()> {
+pub(super) fn repeat(rt: &impl Print, s: Search, cost: u64, times: u64) -> io::Result<()> {
     let mut t = s;
     let mut k = 0;
     while k < times {

@@ -3,10 +3,10 @@ use super::openings::{axis, paper_search, search, verdict_on};
 use super::play::play;
 use super::show;
 use rules::{Coefficients, Rule, RuleChoice, USUAL};
-use std::io::Result;
+use std::io;
 
 // Openings accepted, and refused by checks 1 to 3.
-fn openings(rt: &impl Print) -> Result<()> {
+fn openings(rt: &impl Print) -> io::Result<()> {
     show::text(rt, b"openings refused\n")?;
     let good = axis(0.0, 8.0);
     let none = axis(0.0 / 0.0, 8.0);
@@ -21,7 +21,7 @@ fn openings(rt: &impl Print) -> Result<()> {
 }
 
 // Openings refused by checks 4 to 7.
-fn later_checks(rt: &impl Print) -> Result<()> {
+fn later_checks(rt: &impl Print) -> io::Result<()> {
     let good = axis(0.0, 8.0);
     let tight = axis(-8.0, -7.0);
     let flat = Coefficients {
@@ -53,7 +53,7 @@ fn later_checks(rt: &impl Print) -> Result<()> {
 }
 
 // Later calls refused: a wrong number, a cost too high, nothing read yet, an ended search, a damaged one.
-fn later_calls(rt: &impl Print) -> Result<()> {
+fn later_calls(rt: &impl Print) -> io::Result<()> {
     show::text(rt, b"calls refused\n")?;
     let s = paper_search();
     let twice = engine::tell(s, 2, 30);
@@ -78,7 +78,7 @@ fn later_calls(rt: &impl Print) -> Result<()> {
 }
 
 // Runs through every number of the refusal table.
-pub(super) fn all(rt: &impl Print) -> Result<()> {
+pub(super) fn all(rt: &impl Print) -> io::Result<()> {
     openings(rt)?;
     later_checks(rt)?;
     later_calls(rt)

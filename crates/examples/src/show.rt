@@ -1,20 +1,20 @@
 // What the program prints: texts, trials, refusals, and where a search stands.
 use numerals::bits_of;
 use rules::{Asked, Cause, Counts, Phase, Search, Side, Verdict};
-use std::io::Result;
+use std::io;
 
 // Writes a text.
-pub(super) fn text(rt: &impl Print, t: &[u8]) -> Result<()> {
+pub(super) fn text(rt: &impl Print, t: &[u8]) -> io::Result<()> {
     rt.write_all(t)
 }
 
 // Writes a whole number after a space.
-pub(super) fn number(rt: &impl Print, n: u64) -> Result<()> {
+pub(super) fn number(rt: &impl Print, n: u64) -> io::Result<()> {
     print!(rt; " {n}")
 }
 
 // Writes the first n coordinates of a point by their bits.
-fn coordinates(rt: &impl Print, n: usize, point: [f64; 8]) -> Result<()> {
+fn coordinates(rt: &impl Print, n: usize, point: [f64; 8]) -> io::Result<()> {
     let mut a = 0;
     while a < 8 {
         if a < n {
@@ -26,7 +26,7 @@ fn coordinates(rt: &impl Print, n: usize, point: [f64; 8]) -> Result<()> {
 }
 
 // Writes a trial with its number and the cost that is told for it.
-pub(super) fn trial(rt: &impl Print, n: usize, asked: Asked, cost: u64) -> Result<()> {
+pub(super) fn trial(rt: &impl Print, n: usize, asked: Asked, cost: u64) -> io::Result<()> {
     let point = asked.point;
     print!(rt; "{}", asked.number)?;
     coordinates(rt, n, point)?;
@@ -35,7 +35,7 @@ pub(super) fn trial(rt: &impl Print, n: usize, asked: Asked, cost: u64) -> Resul
 }
 
 // Writes what the next reading is for.
-fn phase_name(rt: &impl Print, phase: Phase) -> Result<()> {
+fn phase_name(rt: &impl Print, phase: Phase) -> io::Result<()> {
     match phase {
         Phase::Building(_) => text(rt, b"building"),
         Phase::Reflecting => text(rt, b"reflecting"),
@@ -54,7 +54,7 @@ fn phase_name(rt: &impl Print, phase: Phase) -> Result<()> {
 }
 
 // Writes the counts: builds, reflections, expansions, contractions, shrinks, probes, open readings.
-fn counts(rt: &impl Print, c: Counts) -> Result<()> {
+fn counts(rt: &impl Print, c: Counts) -> io::Result<()> {
     text(rt, b"counts")?;
     number(rt, c.builds)?;
     number(rt, c.reflections)?;
@@ -67,7 +67,7 @@ fn counts(rt: &impl Print, c: Counts) -> Result<()> {
 }
 
 // Writes where a search stands: its phase, its best reading, its counts.
-pub(super) fn state(rt: &impl Print, s: Search) -> Result<()> {
+pub(super) fn state(rt: &impl Print, s: Search) -> io::Result<()> {
     let phase = s.phase;
     let setup = s.setup;
     let known = s.counts;
@@ -83,7 +83,7 @@ pub(super) fn state(rt: &impl Print, s: Search) -> Result<()> {
 }
 
 // Writes a verdict: a refusal by its number, with its axis where it has one.
-pub(super) fn verdict(rt: &impl Print, v: Verdict) -> Result<()> {
+pub(super) fn verdict(rt: &impl Print, v: Verdict) -> io::Result<()> {
     match v {
         Verdict::Accepted => text(rt, b"accepted\n"),
         Verdict::Refused(r) => refusal(rt, engine::refusal_number(r), engine::refusal_axis(r)),
@@ -91,7 +91,7 @@ pub(super) fn verdict(rt: &impl Print, v: Verdict) -> Result<()> {
 }
 
 // Writes a refusal by its number and its axis; 0 is no axis.
-fn refusal(rt: &impl Print, n: u64, axis: usize) -> Result<()> {
+fn refusal(rt: &impl Print, n: u64, axis: usize) -> io::Result<()> {
     text(rt, b"refused")?;
     number(rt, n)?;
     if axis != 0 {
