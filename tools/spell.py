@@ -14,10 +14,10 @@ import re
 import sys
 
 TOP = pathlib.Path(__file__).resolve().parent.parent
-NAME = r"[^\s(){}.;,@\"«»:]+"
+NAME = r"[^\s(){}.;,@\"«»:`]+"
 DECLARED = re.compile(rf"(?m)^ *(?:(?:abbrev|unfoldable|pub|data|record|ruleset) )*({NAME}(?: {NAME})*)(?: \{{[^{{}}\n]*\}})* :(?: |$)")
 # a word with the point before it, where it has one
-WORD = re.compile(rf"\.?(?<![^\s(){{}}.;,@\"«»:`']){NAME}")
+WORD = re.compile(rf"\.?(?<![^\s(){{}}.;,@\"«»:`]){NAME}")
 # lemmas whose new spelling would be that of a definition; the kit's script spelled some of them anew before
 LEMMAS = """best-after coordinate-by in-order in_order is-line line-after line_after met-by met_by number-read number_read probe-step sound-by within-asked""".split()
 PROOFS = ("Proof.antt", "Invariants.antt", "Answers.antt")
@@ -36,7 +36,7 @@ def snake(name):
 
 def is_lemma(path):
     """Whether a file has definitions or lemmas of the repository, and not the proof of one function."""
-    return path.name not in PROOFS
+    return path.name not in PROOFS or "specs" in path.parts
 
 
 def turned_names(declared):

@@ -11,7 +11,8 @@ use Rattle.rules.specs.Opening.{axes_checks, open_verdict, fresh, opening}
 use Rattle.rules.specs.Calls.{in_order, all_costs, sound, ask_verdict, tell_verdict, best_verdict, asking, telling, showing}
 use Rattle.rules.specs.Examples.{given, paper}
 use Rattle.rules.specs.Cases.{cases_given, cases_stated, openings_given, openings_stated}
-use Rattle.rules.specs.Answers.{endingsGiven, endingsStated, refusalsGiven, refusalsStated, numbersGiven, numbersStated, axesGiven, axesStated}
+use Rattle.rules.specs.Answers.{endings_given, endings_stated, refusals_given, refusals_stated, numbers_given, numbers_stated, axes_given, axes_stated}
+use Rattle.rules.specs.Further.{trials_given, trials_stated, pieces_given, pieces_stated, best_given, best_stated}
 
 -- to unfold this is to compute with floats
 unfoldable pub floats : Unit {0}
@@ -40,16 +41,28 @@ pub openings : openings_given ≡ openings_stated
 unfolding openings_given openings_stated axes_checks open_verdict floats
 openings = refl
 
-pub endings : endingsGiven ≡ endingsStated
-unfolding endingsGiven endingsStated rules
+pub endings : endings_given ≡ endings_stated
+unfolding endings_given endings_stated rules
 endings = refl
 
-pub refusals : refusalsGiven ≡ refusalsStated
-unfolding refusalsGiven refusalsStated rules in_order all_costs sound ask_verdict tell_verdict best_verdict
+pub refusals : refusals_given ≡ refusals_stated
+unfolding refusals_given refusals_stated rules in_order all_costs sound ask_verdict tell_verdict best_verdict
 refusals = refl
 
-pub refusal_numbers : numbersGiven ≡ numbersStated
+pub refusal_numbers : numbers_given ≡ numbers_stated
 refusal_numbers = refl
 
-pub refusal_axes : axesGiven ≡ axesStated
+pub refusal_axes : axes_given ≡ axes_stated
 refusal_axes = refl
+
+pub further_trials : trials_given ≡ trials_stated
+unfolding trials_given trials_stated rules
+further_trials = refl
+
+pub further_pieces : pieces_given ≡ pieces_stated
+unfolding pieces_given pieces_stated rules
+further_pieces = refl
+
+pub further_refusals : best_given ≡ best_stated
+unfolding best_given best_stated rules in_order all_costs sound ask_verdict
+further_refusals = refl

@@ -14,3 +14,4 @@ pub mod Claims
 pub mod Examples
 pub mod Cases
 pub mod Answers
+pub mod Further

@@ -2,8 +2,10 @@
 use mathlib.Core.Path.{◌≡◌, sym, ap, ◌∙◌}
 use mathlib.Core.Bool.{true, ◌&&◌}
 use mathlib.Core.List.{List}
+use mathlib.Core.Logic.{⊎_elim}
 use Prim.Native.Nat.{ℕ, suc-le-suc, ◌+◌, ◌≤◌}
 use native.Mathlib.Numerals.{add-one}
+use native.Mathlib.Omega.{arith}
 use lib.Dec.{leb}
 use borrow.Author.Tests.{le-leb, lt-leb}
 use Rattle.rules.specs.Numbers.{max_budget}
@@ -17,7 +19,6 @@ use Rattle.rules.specs.declared.Verdict.{Verdict}
 use Rattle.rules.specs.declared.Verdict.TheVariants.{Accepted, Refused}
 use Rattle.engine.proofs.Laws.Opening.{axes_with}
 use Rattle.engine.proofs.opening.open_verdict.Goals as goal
-use Rattle.engine.proofs.opening.open_verdict.Goals.{then-n-lt1-via-then-n-lt1, then-n-lt1-via-else-n-lt1+then-n-gt8}
 use Rattle.engine.proofs.opening.open_verdict.Goals.{else-n-budget-via-then-n-budget+else-budget-le-MAX_BUDGET, else-n-budget-via-else-n-budget}
 
 -- check 1 passes
@@ -28,16 +29,13 @@ pub returns-then-n-lt1 : goal.returns-then-n-lt1
 unfolding open_verdict
 returns-then-n-lt1 c =
     let n = c.args.n in
-    elim c.then-n-lt1.branch [
-      | then-n-lt1-via-then-n-lt1 w ↦ rw (lt-leb 1 n w.if-n-lt1.true)
-      | then-n-lt1-via-else-n-lt1+then-n-gt8 w ↦ rw (le-leb 1 n w.if-n-lt1.false, lt-leb n 8 w.if-n-gt8.true)
-    ]
+    ⊎_elim (λ l. rw (lt-leb 1 n l)) (λ h. rw (le-leb 1 n h.0, lt-leb n 8 h.1)) c.then-n-lt1.either
 
 pub returns-in-Refused : goal.returns-in-Refused
 unfolding open_verdict
 returns-in-Refused c =
     let a = c.args in
-    rw (in_room a.n c.if-n-lt1.false c.if-n-gt8.false, axes_with a.n 0 a.axes (Refused _) _ c.in-Refused.ensures)
+    rw (in_room a.n (omega arith) (omega arith), axes_with a.n 0 a.axes (Refused _) _ c.in-Refused.ensures)
 
 -- the checks of the axes pass, whatever follows them
 axes_pass : (n : ℕ) (axes : List Axis) {u : Verdict} → u ≡ Accepted → u ≡ axes_checks n 0 axes Accepted → (v : Verdict) → axes_checks n 0 axes v ≡ v
@@ -47,13 +45,13 @@ pub returns-then-not-in_coefficients : goal.returns-then-not-in_coefficients
 unfolding open_verdict
 returns-then-not-in_coefficients c =
     let a = c.args in
-    rw (in_room a.n c.if-n-lt1.false c.if-n-gt8.false, axes_pass a.n a.axes c.in_default.is c.axes_verdict-verdict.ensures _, ← c.in_coefficients.ensures, c.if-not-in_coefficients.true)
+    rw (in_room a.n (omega arith) (omega arith), axes_pass a.n a.axes c.in_default.is c.axes_verdict-verdict.ensures _, ← c.in_coefficients.ensures, c.if-not-in_coefficients.true)
 
 pub returns-then-not-in_threshold : goal.returns-then-not-in_threshold
 unfolding open_verdict
 returns-then-not-in_threshold c =
     let a = c.args in
-    rw (in_room a.n c.if-n-lt1.false c.if-n-gt8.false, axes_pass a.n a.axes c.in_default.is c.axes_verdict-verdict.ensures _, ← c.in_coefficients.ensures, c.if-not-in_coefficients.false, ← c.rule_of.ensures, ← c.in_threshold.ensures, c.if-not-in_threshold.true)
+    rw (in_room a.n (omega arith) (omega arith), axes_pass a.n a.axes c.in_default.is c.axes_verdict-verdict.ensures _, ← c.in_coefficients.ensures, c.if-not-in_coefficients.false, ← c.rule_of.ensures, ← c.in_threshold.ensures, c.if-not-in_threshold.true)
 
 -- checks 1 to 6 have passed
 last : (n : ℕ) (axes : List Axis) (choice : RuleChoice) (k : Coefficients) (budget : ℕ) → (leb 1 n && leb n 8) ≡ true → ((v : Verdict) → axes_checks n 0 axes v ≡ v) → in_coefficients k ≡ true → in_threshold (rule_of choice) ≡ true → open_verdict n axes choice k budget ≡ check (leb (n + 1) budget && leb budget max_budget) BadBudget Accepted
@@ -63,13 +61,13 @@ last n axes choice k budget e f g h = rw (e, f, g, h)
 pub returns-then-budget-le-MAX_BUDGET : goal.returns-then-budget-le-MAX_BUDGET
 returns-then-budget-le-MAX_BUDGET c =
     let a = c.args in
-    let passed = last a.n a.axes a.choice a.c a.budget (in_room a.n c.if-n-lt1.false c.if-n-gt8.false) (axes_pass a.n a.axes c.in_default.is c.axes_verdict-verdict.ensures) (sym c.in_coefficients.ensures ∙ c.if-not-in_coefficients.false) (sym (c.in_threshold.ensures ∙ ap in_threshold c.rule_of.ensures) ∙ c.if-not-in_threshold.false) in
+    let passed = last a.n a.axes a.choice a.c a.budget (in_room a.n (omega arith) (omega arith)) (axes_pass a.n a.axes c.in_default.is c.axes_verdict-verdict.ensures) (sym c.in_coefficients.ensures ∙ c.if-not-in_coefficients.false) (sym (c.in_threshold.ensures ∙ ap in_threshold c.rule_of.ensures) ∙ c.if-not-in_threshold.false) in
     rw (passed, add-one, le-leb _ _ c.if-n-budget.true, le-leb _ _ c.if-budget-le-MAX_BUDGET.true)
 
 pub returns-else-n-budget : goal.returns-else-n-budget
 returns-else-n-budget c =
     let a = c.args in
-    let passed = last a.n a.axes a.choice a.c a.budget (in_room a.n c.if-n-lt1.false c.if-n-gt8.false) (axes_pass a.n a.axes c.in_default.is c.axes_verdict-verdict.ensures) (sym c.in_coefficients.ensures ∙ c.if-not-in_coefficients.false) (sym (c.in_threshold.ensures ∙ ap in_threshold c.rule_of.ensures) ∙ c.if-not-in_threshold.false) in
+    let passed = last a.n a.axes a.choice a.c a.budget (in_room a.n (omega arith) (omega arith)) (axes_pass a.n a.axes c.in_default.is c.axes_verdict-verdict.ensures) (sym c.in_coefficients.ensures ∙ c.if-not-in_coefficients.false) (sym (c.in_threshold.ensures ∙ ap in_threshold c.rule_of.ensures) ∙ c.if-not-in_threshold.false) in
     rw (passed, add-one)
     (elim c.else-n-budget.branch [
       | else-n-budget-via-then-n-budget+else-budget-le-MAX_BUDGET w ↦ rw (le-leb _ _ w.if-n-budget.true, lt-leb _ _ w.if-budget-le-MAX_BUDGET.false)
