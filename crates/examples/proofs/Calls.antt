@@ -1,8 +1,5 @@
 -- Laws on calls made one after the other. Assumes nothing.
-use mathlib.Core.Path.{◌≡◌, refl}
-use mathlib.Core.Logic.{◌≢◌}
-use Prim.Native.Nat.{ℕ, zero, suc, ◌+◌}
-use native.Mathlib.Numerals.{add-one}
+use Rattle.std.proofs.Common.{◌≡◌, ◌≢◌, refl, ℕ, zero, suc, ◌+◌, add-one}
 use Rattle.rules.specs.Simplex.{up_to}
 use Rattle.rules.specs.History.{Call, best, after1, after}
 use Rattle.rules.specs.declared.Search.{Search}

@@ -5,6 +5,7 @@ ghost use Rattle.examples.specs.List.{call_of, calls_of, Claimed};
 
 use super::{openings, show};
 use rules::{Axis, Coefficients, Opened, RuleChoice, Search, USUAL};
+use std::io;
 
 // One call on a search: 0 asks, 1 tells this cost for this reading number, anything else asks for the best.
 fn one(s: Search, kind: u64, number: u64, cost: u64) -> Search
@@ -63,8 +64,8 @@ pub(super) fn listed(
 
 // A list with a doubled tell, one of a number that is not due and two queries among it: the search is that of the
 // three costs 30, 20 and 10.
-pub(super) fn all() {
-    show::text(b"a list of calls\n");
+pub(super) fn all(rt: &impl Print) -> io::Result<()> {
+    show::text(rt, b"a list of calls\n")?;
     let axes = [openings::axis(0.0, 8.0); 8];
     let kinds = [0u64, 1, 1, 2, 1, 1, 1, 0];
     let numbers = [0u64, 1, 1, 0, 2, 5, 3, 0];
@@ -80,5 +81,5 @@ pub(super) fn all() {
         &costs,
     );
     let search = opened.search;
-    show::state(search);
+    show::state(rt, search)
 }

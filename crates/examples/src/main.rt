@@ -3,6 +3,8 @@
 
 #![tactic(auto)]
 
+use std::io;
+
 mod cases;
 mod list;
 mod openings;
@@ -11,9 +13,9 @@ mod play;
 mod refusals;
 mod show;
 
-fn main() {
-    paper::all();
-    cases::all();
-    list::all();
-    refusals::all();
+fn main(rt: HostRuntime) -> io::Result<()> {
+    paper::all(&rt)?;
+    cases::all(&rt)?;
+    list::all(&rt)?;
+    refusals::all(&rt)
 }

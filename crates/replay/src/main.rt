@@ -2,8 +2,11 @@
 
 #![tactic(auto)]
 
-use libc::STDIN_FILENO;
+ghost use Rattle.std.specs.Io.{ReadsAtMost};
+
 use rules::Search;
+use std::io;
+use std::io::Read;
 
 mod calls;
 mod print;
@@ -43,34 +46,47 @@ struct Turn {
 
 // Makes the calls of a script, up to its first malformed line or the first answer that cannot be written. No script has so many lines that
 // their number wraps.
-fn replay(input: &[u8]) {
+fn replay(rt: &impl Print, input: &[u8]) -> io::Result<()> {
     let mut search = calls::closed();
     let mut from = 0;
-    let mut number = 1;
+    let mut number: u64 = 1;
     while from < input.len() {
         let line = script::line_at(input, from);
         if !line.well {
-            print::malformed(number);
-            return;
+            return print::malformed(rt, number);
         }
         let turn = calls::turn(search, line);
         let answer = turn.answer;
-        if !print::line(line.letter, answer) {
-            return;
-        }
+        print::line(rt, line.letter, answer)?;
         search = turn.search;
         from = line.next;
-        number = std::num::wrapping_add_u64(number, 1);
+        number = number.wrapping_add(1);
     }
+    Ok(())
+}
+
+// Reads until the buffer is full or the input ends, and gives how many bytes of it were read.
+fn read_full(reader: &mut impl Read, buffer: &mut [u8]) -> io::Result<usize>
+    ensures { ReadsAtMost result buffer.new }
+{
+    let mut done = 0;
+    while done < buffer.len() {
+        let count = reader.read(&mut buffer[done..])?;
+        if count == 0 {
+            break;
+        }
+        done += count;
+    }
+    Ok(done)
 }
 
 // 262,145 bytes are enough to know that a script is too long.
-fn main() {
+fn main(rt: HostRuntime) -> io::Result<()> {
     let mut input = [0u8; 262145];
-    let count = io::read_full(STDIN_FILENO, &mut input);
+    let count = read_full(&mut rt.stdin(), &mut input)?;
     if count > 262144 {
-        print::malformed(0);
+        print::malformed(&rt, 0)
     } else {
-        replay(&input[..count]);
+        replay(&rt, &input[..count])
     }
 }

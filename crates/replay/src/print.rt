@@ -2,7 +2,7 @@
 ghost use Rattle.std.specs.Prelude.{◌+◌, ◌≤◌, length};
 
 use crate::Answer;
-use libc::STDOUT_FILENO;
+use std::io::Result;
 
 // Puts a space and a word here.
 fn put_word(out: &mut [u8], at: usize, value: u64)
@@ -25,8 +25,8 @@ fn a_hundred_at_most(count: usize) -> usize
     if count < 100 { count } else { 100 }
 }
 
-// Prints a line: this letter and the words. Answers whether it was written.
-pub(super) fn line(letter: u8, answer: Answer) -> bool {
+// Prints a line: this letter and the words.
+pub(super) fn line(rt: &impl Print, letter: u8, answer: Answer) -> Result<()> {
     let words = answer.words;
     let count = a_hundred_at_most(answer.count);
     let mut out = [b'\n'; 1702];
@@ -38,13 +38,13 @@ pub(super) fn line(letter: u8, answer: Answer) -> bool {
         at += 17;
         i += 1;
     }
-    io::write_all(STDOUT_FILENO, &out[..at + 1])
+    rt.write_all(&out[..at + 1])
 }
 
 // Prints that the line of this number is malformed.
-pub(super) fn malformed(number: u64) {
+pub(super) fn malformed(rt: &impl Print, number: u64) -> Result<()> {
     let mut words = [0u64; 100];
     words[0] = number;
     let answer = Answer { words, count: 1 };
-    line(b'x', answer);
+    line(rt, b'x', answer)
 }

@@ -85,7 +85,7 @@ fn run_one(n: usize, around: [f64; 8], most: u64) -> Run
     let opened = open(n);
     let mut search = opened.search;
     let mut told = 0;
-    let mut sum = 0;
+    let mut sum: u64 = 0;
     while told < most {
         let asked = engine::ask(search);
         let verdict = asked.verdict;
@@ -96,7 +96,7 @@ fn run_one(n: usize, around: [f64; 8], most: u64) -> Run
         let cost = cost_of(n, point, around);
         let answer = engine::tell(search, asked.number, cost);
         search = answer.search;
-        sum = std::num::wrapping_add_u64(sum, cost);
+        sum = sum.wrapping_add(cost);
         told += 1;
     }
     Run { told, sum }
@@ -108,8 +108,8 @@ fn run_all(n: usize, readings: u64) -> Total
 {
     let mut left = readings;
     let mut generated = 1;
-    let mut searches = 0;
-    let mut sum = 0;
+    let mut searches: u64 = 0;
+    let mut sum: u64 = 0;
     while left > 0 {
         let bowl = next_bowl(n, generated);
         let around = bowl.around;
@@ -119,8 +119,8 @@ fn run_all(n: usize, readings: u64) -> Total
         }
         left -= run.told;
         generated = bowl.generated;
-        searches = std::num::wrapping_add_u64(searches, 1);
-        sum = std::num::wrapping_add_u64(sum, run.sum);
+        searches = searches.wrapping_add(1);
+        sum = sum.wrapping_add(run.sum);
     }
     Total { searches, sum }
 }

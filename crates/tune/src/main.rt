@@ -3,10 +3,12 @@
 #![tactic(auto)]
 
 ghost use Rattle.std.specs.Prelude.{◌≡◌, false, ◌<◌};
+ghost use Rattle.std.specs.Io.{ReadsAtMost};
 ghost use Rattle.tune_text.specs.Reading.{is_done};
 ghost use Rattle.tune_text.specs.Steps.{steps_left};
 
-use libc::{STDERR_FILENO, STDIN_FILENO, STDOUT_FILENO};
+use std::io;
+use std::io::Read;
 use tune_text::State;
 
 // The state after some steps, and whether all their lines were written.
@@ -17,34 +19,50 @@ struct Written {
 }
 
 // Makes as many steps as a buffer has room for, and writes their lines.
-fn write_some(input: &[u8], state: State) -> Written
+fn write_some(rt: &impl Print, input: &[u8], state: State) -> Written
     requires { is_done state.progress.stage ≡ false }
     ensures { steps_left input.now result.state < steps_left input.now state }
 {
-    let mut buffer = io::large_buffer();
+    let mut buffer = [0u8; 65536];
     let filled = tune_text::fill(input, state, &mut buffer);
     let count = filled.count;
-    let whole = io::write_all(STDOUT_FILENO, &buffer[..count]);
+    let whole = rt.write_all(&buffer[..count]).is_ok();
     let next = filled.state;
     Written { state: next, whole }
 }
 
 // Makes all steps for this input, or stops at the first write that fails.
-fn tune(input: &[u8]) {
+fn tune(rt: &(impl Print + Eprint), input: &[u8]) {
     let mut state = tune_text::first();
     while !tune_text::is_done(state) {
-        let written = write_some(input, state);
+        let written = write_some(rt, input, state);
         if !written.whole {
-            io::write_all(STDERR_FILENO, b"tune: standard output takes no more\n");
+            let _ = rt.eprintln("tune: standard output takes no more");
             return;
         }
         state = written.state;
     }
 }
 
+// Reads until the buffer is full or the input ends, and gives how many bytes of it were read.
+fn read_full(reader: &mut impl Read, buffer: &mut [u8]) -> io::Result<usize>
+    ensures { ReadsAtMost result buffer.new }
+{
+    let mut done = 0;
+    while done < buffer.len() {
+        let count = reader.read(&mut buffer[done..])?;
+        if count == 0 {
+            break;
+        }
+        done += count;
+    }
+    Ok(done)
+}
+
 // 65,537 bytes are enough to know that an input is too long.
-fn main() {
+fn main(rt: HostRuntime) -> io::Result<()> {
     let mut input = [0u8; 65537];
-    let count = io::read_full(STDIN_FILENO, &mut input);
-    tune(&input[..count]);
+    let count = read_full(&mut rt.stdin(), &mut input)?;
+    tune(&rt, &input[..count]);
+    Ok(())
 }
