@@ -14,16 +14,16 @@ is_number (inf s) e = tt
 is_number (fin s m n) e = tt
 
 -- a float that differs from itself is the NaN
-is-nan : (x : Float) → ne x x ≡ true → x ≡ nan
-is-nan x e = differs_from_itself x (rw e tt)
+is_the_nan : (x : Float) → ne x x ≡ true → x ≡ nan
+is_the_nan x e = differs_from_itself x (rw e tt)
 
 -- the NaN's bits, 7ff8000000000000
-nan-bits : to_bits binary64 nan ≡ 9221120237041090560
+nan_bits_are : to_bits binary64 nan ≡ 9221120237041090560
 unfolding to_bits
-nan-bits = refl
+nan_bits_are = refl
 
 pub float_to_bits-result : goal.float_to_bits-result
 float_to_bits-result c = is_number c.args.x c.if-x.false
 
 pub returns-then-x : goal.returns-then-x
-returns-then-x c = rw (is-nan c.args.x c.if-x.true) (sym nan-bits)
+returns-then-x c = rw (is_the_nan c.args.x c.if-x.true) (sym nan_bits_are)

@@ -46,8 +46,8 @@ more : (base v i d : ℕ) → v < base ^ i → d < base → v * base + d < base 
 more base v i d l k = rw (add-one, pow-suc) (omega (arith, mul-le-mul_right base l, suc-mul v base))
 
 -- a number of at most i digits with one more digit fits 64 bits, where i is below `most` and numbers of `most` digits fit
-pub more-fits : (base v i d most : ℕ) → v < base ^ i → d < base → i < most → base ^ most ≤ 2 ^ 64 → v * base + d < 2 ^ 64
-more-fits base v i d most l k m f =
+pub more_fits : (base v i d most : ℕ) → v < base ^ i → d < base → i < most → base ^ most ≤ 2 ^ 64 → v * base + d < 2 ^ 64
+more_fits base v i d most l k m f =
     let pos : 0 < base = omega arith in
     let h : i + 1 ≤ most = omega arith in
     omega (arith, more base v i d l k, pow-le-pow_right pos h)
@@ -66,9 +66,9 @@ module _ (base : ℕ) (xs : List ℕ) (v i : ℕ) (r : Reading base xs v i) wher
     unfolding all_digits
     digits_from = rw (add-one, drop-cons xs i 0, e)
 
-    number-from : reading base v (drop i xs) ≡ reading base (v * base + d) (drop (i + 1) xs)
+    number_from : reading base v (drop i xs) ≡ reading base (v * base + d) (drop (i + 1) xs)
     unfolding reading
-    number-from = rw (add-one, drop-cons xs i 0, e)
+    number_from = rw (add-one, drop-cons xs i 0, e)
 
     -- where byte i is no digit in this base, the field is not all digits
     pub reads_other : base ≤ d → all_digits base xs ≡ false
@@ -81,5 +81,5 @@ module _ (base : ℕ) (xs : List ℕ) (v i : ℕ) (r : Reading base xs v i) wher
           within = omega arith;
           small = more base v i d r.small k;
           digits = r.digits ∙ digits_from ∙ rw (lt-ltb d base k);
-          number = r.number ∙ number-from;
+          number = r.number ∙ number_from;
         }

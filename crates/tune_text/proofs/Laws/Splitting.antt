@@ -35,33 +35,33 @@ outcome f k i front ps =
 
 module _ (f : Form) (k : ℕ) where
   -- reading a line gives the `outcome` of no field read and all fields left
-  pub outcome-first : (line : List ℕ) → numbers_read f k line ≡ outcome f k 0 [] (cut space line)
+  pub outcome_first : (line : List ℕ) → numbers_read f k line ≡ outcome f k 0 [] (cut space line)
   unfolding numbers_read is_line outcome
-  outcome-first line = rw zero-add
+  outcome_first line = rw zero-add
 
   module _ (i : ℕ) (front : List ℕ) where
     -- a line with a field of another form is malformed
-    outcome-ill : (p : List ℕ) (ps : List (List ℕ)) → is_number f p ≡ false → outcome f k i front (p ∷ ps) ≡ bad
+    outcome_ill : (p : List ℕ) (ps : List (List ℕ)) → is_number f p ≡ false → outcome f k i front (p ∷ ps) ≡ bad
     unfolding outcome all_numbers
-    outcome-ill p ps e = rw (e, and-false (eqb (i + suc (length ps)) k))
+    outcome_ill p ps e = rw (e, and-false (eqb (i + suc (length ps)) k))
 
     -- a line of too few fields or too many is malformed
-    outcome-count : (ps : List (List ℕ)) → (i + length ps ≡ k → ⊥) → outcome f k i front ps ≡ bad
+    outcome_count : (ps : List (List ℕ)) → (i + length ps ≡ k → ⊥) → outcome f k i front ps ≡ bad
     unfolding outcome
-    outcome-count ps h = rw (ne_eqb (i + length ps) k h)
+    outcome_count ps h = rw (ne_eqb (i + length ps) k h)
 
     -- reading one field more leaves the outcome of the line
-    outcome-more : (p : List ℕ) (ps : List (List ℕ)) → is_number f p ≡ true
+    outcome_more : (p : List ℕ) (ps : List (List ℕ)) → is_number f p ≡ true
         → outcome f k i front (p ∷ ps) ≡ outcome f k (i + 1) (front ++ (field_value f p ∷ [])) ps
     unfolding outcome all_numbers
-    outcome-more p ps e =
+    outcome_more p ps e =
         let n : i + suc (length ps) ≡ i + 1 + length ps = omega arith in
         rw (n, e, append_snoc)
 
     -- where k fields are read and none is left, the outcome is their numbers and zeros
-    outcome-none : i ≡ k → outcome f k i front [] ≡ record { well = true; values = front ++ replicate (4 - k) 0 }
+    outcome_none : i ≡ k → outcome f k i front [] ≡ record { well = true; values = front ++ replicate (4 - k) 0 }
     unfolding outcome all_numbers
-    outcome-none h =
+    outcome_none h =
         let n : i + 0 ≡ k = omega arith in
         rw (eq-eqb (i + 0) k n, append-nil)
 
@@ -94,8 +94,8 @@ module _ (vs : List ℕ) (i v : ℕ) (four : length vs ≡ 4) (room : i < 4) whe
   take_more : take (i + 1) (set vs i v) ≡ take i vs ++ (v ∷ [])
   take_more = rw add-one (take-suc-set vs i v (omega arith))
 
-  zeros-more : drop i vs ≡ replicate (4 - i) 0 → drop (i + 1) (set vs i v) ≡ replicate (4 - (i + 1)) 0
-  zeros-more z =
+  zeros_more : drop i vs ≡ replicate (4 - i) 0 → drop (i + 1) (set vs i v) ≡ replicate (4 - (i + 1)) 0
+  zeros_more z =
       let n : 4 - i ≡ suc (4 - (i + 1)) = omega arith in
       drop-set-lt (i + 1) vs i v (omega arith) ∙ sym (drop-drop 1 i vs) ∙ rw (z, n)
 
@@ -110,39 +110,39 @@ module _ (f : Form) (k : ℕ) (line vs : List ℕ) (from i end : ℕ) (n : Numbe
 
   module _ (t : Turn) where
     -- where the next field ends before the line does, that field and those after it are left
-    gives-next : end < length line → numbers_read f k line ≡ outcome f k i (take i vs) (take (end - from) (drop from line) ∷ cut space (drop (end + 1) line))
-    gives-next h = t.going.gives t.more ∙ ap (outcome f k i (take i vs)) (cut_next space line from end (t.going.within t.more) t.found h)
+    gives_next : end < length line → numbers_read f k line ≡ outcome f k i (take i vs) (take (end - from) (drop from line) ∷ cut space (drop (end + 1) line))
+    gives_next h = t.going.gives t.more ∙ ap (outcome f k i (take i vs)) (cut_next space line from end (t.going.within t.more) t.found h)
 
     -- where the next field ends with the line, that field alone is left
-    gives-last : length line ≤ end → numbers_read f k line ≡ outcome f k i (take i vs) (take (end - from) (drop from line) ∷ [])
-    gives-last h = t.going.gives t.more ∙ ap (outcome f k i (take i vs)) (cut_end space line from end (t.going.within t.more) t.found h)
+    gives_last : length line ≤ end → numbers_read f k line ≡ outcome f k i (take i vs) (take (end - from) (drop from line) ∷ [])
+    gives_last h = t.going.gives t.more ∙ ap (outcome f k i (take i vs)) (cut_end space line from end (t.going.within t.more) t.found h)
 
     -- n says whether the next field has the form
     test : is_number f (take (end - from) (drop from line)) ≡ n.well
     test = sym (number_test f (take (end - from) (drop from line))) ∙ ap (λ (m : Number). m.well) (sym t.got)
 
     -- a line whose next field has another form is malformed
-    pub refuses-form : n.well ≡ false → numbers_read f k line ≡ bad
-    refuses-form e =
+    pub refuses_form : n.well ≡ false → numbers_read f k line ≡ bad
+    refuses_form e =
         let p = take (end - from) (drop from line) in
         ⊎_elim
-        (λ h. gives-last h ∙ outcome-ill f k i (take i vs) p [] (test ∙ e))
-        (λ h. gives-next h ∙ outcome-ill f k i (take i vs) p (cut space (drop (end + 1) line)) (test ∙ e))
+        (λ h. gives_last h ∙ outcome_ill f k i (take i vs) p [] (test ∙ e))
+        (λ h. gives_next h ∙ outcome_ill f k i (take i vs) p (cut space (drop (end + 1) line)) (test ∙ e))
         (le_or_lt (length line) end)
 
     -- a line is malformed where fields are left after field k, or none is left after an earlier field
-    pub refuses-count : not (beq (eqb (i + 1) k) (eqb end (length line))) ≡ true → numbers_read f k line ≡ bad
-    refuses-count e =
+    pub refuses_count : not (beq (eqb (i + 1) k) (eqb end (length line))) ≡ true → numbers_read f k line ≡ bad
+    refuses_count e =
         let p = take (end - from) (drop from line) in
         let ps = cut space (drop (end + 1) line) in
         ⊎_elim
         (λ w.
         let last : i + 1 ≡ k = eqb-true (i + 1) k w.0 in
         let h : end < length line = omega (arith, t.inside, eqb-false end (length line) w.1) in
-        gives-next h ∙ outcome-count f k i (take i vs) (p ∷ ps) (λ q. omega (arith, cut_some space (drop (end + 1) line))))
+        gives_next h ∙ outcome_count f k i (take i vs) (p ∷ ps) (λ q. omega (arith, cut_some space (drop (end + 1) line))))
         (λ w.
         let h : length line ≤ end = omega (arith, eqb-true end (length line) w.1) in
-        gives-last h ∙ outcome-count f k i (take i vs) (p ∷ []) (λ q. eqb-false (i + 1) k w.0 (omega arith)))
+        gives_last h ∙ outcome_count f k i (take i vs) (p ∷ []) (λ q. eqb-false (i + 1) k w.0 (omega arith)))
         (differ (eqb (i + 1) k) (eqb end (length line)) e)
 
     -- the number of a next field that is not refused is put after those of the fields before it
@@ -156,16 +156,16 @@ module _ (f : Form) (k : ℕ) (line vs : List ℕ) (from i end : ℕ) (n : Numbe
         let same : eqb end (length line) ≡ eqb (i + 1) k = sym (agree (eqb (i + 1) k) (eqb end (length line)) d) in
         let i<4 : i < 4 = omega (arith, t.more) in
         let front : take i vs ++ (field_value f p ∷ []) ≡ take (i + 1) us = rw v (sym (take_more vs i (field_value f p) t.going.four i<4)) in
-        let zeros : drop (i + 1) us ≡ replicate (4 - (i + 1)) 0 = zeros-more vs i n.value t.going.four i<4 t.going.zeros in
+        let zeros : drop (i + 1) us ≡ replicate (4 - (i + 1)) 0 = zeros_more vs i n.value t.going.four i<4 t.going.zeros in
         let before : i + 1 < k → end < length line = λ h. omega (arith, t.inside, eqb-false end (length line) (same ∙ ne_eqb (i + 1) k (omega arith))) in
         record {
           within = λ h. omega (arith, before h);
-          gives = λ h. gives-next (before h) ∙ outcome-more f k i (take i vs) p (cut space (drop (end + 1) line)) is ∙ rw front;
+          gives = λ h. gives_next (before h) ∙ outcome_more f k i (take i vs) p (cut space (drop (end + 1) line)) is ∙ rw front;
           ends = λ h.
               let last : i + 1 ≡ k = omega (arith, t.more) in
               let l : length line ≤ end = omega (arith, eqb-true end (length line) (same ∙ eq-eqb (i + 1) k last)) in
               let whole : take (i + 1) us ++ replicate (4 - k) 0 ≡ us = rw (← last, ← zeros) (take-append-drop (i + 1) us) in
-              gives-last l ∙ outcome-more f k i (take i vs) p [] is ∙ outcome-none f k (i + 1) (take i vs ++ (field_value f p ∷ [])) last ∙ rw (front, whole);
+              gives_last l ∙ outcome_more f k i (take i vs) p [] is ∙ outcome_none f k (i + 1) (take i vs ++ (field_value f p ∷ [])) last ∙ rw (front, whole);
           four = length-set vs i n.value ∙ t.going.four;
           zeros = zeros;
         }

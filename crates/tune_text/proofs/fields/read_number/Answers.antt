@@ -2,7 +2,7 @@
 use Rattle.std.proofs.Common.{arith, ◌≡◌, ◌<◌, ◌≤◌, sym, length, false}
 use Rattle.tune_text.specs.Fields.{form, is_number}
 use Rattle.tune_text.proofs.Laws.Cutting.{number_well, number_ill}
-use Rattle.tune_text.proofs.Laws.Numbering.{short, long, others, right, more-fits, reads_all, reads_other, reads_more}
+use Rattle.tune_text.proofs.Laws.Numbering.{short, long, others, right, more_fits, reads_all, reads_other, reads_more}
 use Rattle.tune_text.proofs.fields.read_number.Goals as goal
 use Rattle.tune_text.proofs.fields.read_number.Goals.{then-field-least-via-then-field-least, then-field-least-via-else-field-least+then-field-most}
 
@@ -27,12 +27,12 @@ returns-then-d-base c =
 pub overflow_add-value : goal.overflow_add-value
 overflow_add-value c =
     let room : c.loop-i.i < c.args.most = omega arith in
-    record { fits = more-fits c.args.base c.loop-i.value c.loop-i.i c.digit-d.result c.args.most c.loop-i.invariant.small c.if-d-base.false room c.requires.2 }
+    record { fits = more_fits c.args.base c.loop-i.value c.loop-i.i c.digit-d.result c.args.most c.loop-i.invariant.small c.if-d-base.false room c.requires.2 }
 
 pub overflow_mul-value : goal.overflow_mul-value
 overflow_mul-value c =
     let room : c.loop-i.i < c.args.most = omega arith in
-    omega (arith, more-fits c.args.base c.loop-i.value c.loop-i.i c.digit-d.result c.args.most c.loop-i.invariant.small c.if-d-base.false room c.requires.2)
+    omega (arith, more_fits c.args.base c.loop-i.value c.loop-i.i c.digit-d.result c.args.most c.loop-i.invariant.small c.if-d-base.false room c.requires.2)
 
 pub loop-i-preserved : goal.loop-i-preserved
 loop-i-preserved c =

@@ -4,7 +4,7 @@ use Rattle.std.proofs.Common.{arith, refl, sym, ◌≡◌}
 use borrow.Author.Tests.{not-true, not-false}
 use Rattle.tune_text.specs.Fields.{form}
 use Rattle.tune_text.specs.Handed.{numbers_read}
-use Rattle.tune_text.proofs.Laws.Splitting.{Turn, bad, outcome-first, refuses-form, refuses-count, goes_on}
+use Rattle.tune_text.proofs.Laws.Splitting.{Turn, bad, outcome_first, refuses_form, refuses_count, goes_on}
 use Rattle.tune_text.proofs.fields.read_numbers.Goals as goal
 use Rattle.tune_text.proofs.fields.read_numbers.Goals.{then-not-number-via-then-not-number, then-not-number-via-else-not-number+then-last-end}
 
@@ -12,7 +12,7 @@ pub loop-i-init : goal.loop-i-init
 loop-i-init c =
     record {
       within = λ h. omega arith;
-      gives = λ h. outcome-first (form c.args.base c.args.least c.args.most) c.args.k c.args.line.now;
+      gives = λ h. outcome_first (form c.args.base c.args.least c.args.most) c.args.k c.args.line.now;
       ends = λ h. absurd (omega (arith, c.requires.k_nonzero.0));
       four = refl;
       zeros = refl;
@@ -33,8 +33,8 @@ returns-then-not-number c =
     } in
     let malformed : numbers_read f c.args.k xs ≡ bad =
     elim c.then-not-number.branch [
-      | then-not-number-via-then-not-number w ↦ refuses-form f c.args.k xs at.values at.from at.i c.find-end.result n t (not-true n.well w.if-not-number.true)
-      | then-not-number-via-else-not-number+then-last-end w ↦ refuses-count f c.args.k xs at.values at.from at.i c.find-end.result n t w.if-last-end.true
+      | then-not-number-via-then-not-number w ↦ refuses_form f c.args.k xs at.values at.from at.i c.find-end.result n t (not-true n.well w.if-not-number.true)
+      | then-not-number-via-else-not-number+then-last-end w ↦ refuses_count f c.args.k xs at.values at.from at.i c.find-end.result n t w.if-last-end.true
     ] in
     sym malformed
 
