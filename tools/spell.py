@@ -4,7 +4,7 @@
 usage: python3 tools/spell.py        once, at the top, right after the kit's port.py
 
 A name is turned where a file of specs/ or a file of lemmas in proofs/ declares it: a definition, a lemma, a constructor or a field. Types and
-facts, whose names begin with a capital, stay, and so do functions of src/ and what a proof of one function declares for itself.
+facts, whose names begin with a capital, stay, and so do functions of src/, strings, and what a proof of one function declares for itself.
 `getD`, which the library calls `get_or` now, is so called inside a name too. Each new spelling is printed beside the old one; the script stops,
 with nothing written, where two names would fall together or a new one is already in use.
 """
@@ -80,7 +80,8 @@ def main():
                 return word
             return word[: len(word) - len(name)] + turned.get(name, name)
 
-        return WORD.sub(spelled, text)
+        parts = re.split(r'("[^"\n]*")', text)
+        return "".join(part if part.startswith('"') else WORD.sub(spelled, part) for part in parts)
 
     for path in texts(TOP / "crates"):
         path.write_text(turn(path.read_text(), is_lemma(path)))

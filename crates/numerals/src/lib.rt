@@ -7,8 +7,8 @@ ghost use Rattle.std.specs.Float.{binary64};
 ghost use Rattle.std.specs.Float.Ieee.{of_bits, to_bits};
 ghost use Rattle.numerals.specs.Digits.{digit_of};
 
-
 // The float with these bits; any NaN's bits give the one NaN.
+#[tactic(auto, using(crate::proofs::Nans::nans))]
 pub fn float_of(bits: u64) -> f64
     ensures { result ≡ of_bits binary64 bits }
 {

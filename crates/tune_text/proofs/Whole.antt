@@ -9,7 +9,7 @@ use lib.ListN.{length, take, drop, length-drop}
 use lib.Seq.{drop-drop}
 use lib.Dec.{leb}
 use borrow.Author.Tests.{le-leb, leb-true, leb-false}
-use Rattle.bytes.specs.Bytes.{index_of}
+use Rattle.tune_text.specs.Scan.{index_of}
 use Rattle.rules.proofs.Laws.Tests.{cond_elim}
 use Rattle.tune_text.specs.Fields.{newline, cut}
 use Rattle.tune_text.specs.Lines.{bad_line}

@@ -1,6 +1,6 @@
 -- The output one step at a time: what the promise of `step` cites, and what a run of steps prints.
 use Rattle.std.specs.Prelude.{false, cond, List, [], ◌++◌, ◌≡◌, ℕ, zero, suc, ◌+◌, ◌-◌, ◌≤◌, ◌<◌, length, take, drop, leb, ltb}
-use Rattle.bytes.specs.Bytes.{index_of}
+use Rattle.tune_text.specs.Scan.{index_of}
 use Rattle.tune_text.specs.Fields.{newline}
 use Rattle.tune_text.specs.Lines.{bad_line}
 use Rattle.tune_text.specs.Reading.{Turned, nothing_read, at, line_read, last_line, is_over, is_done}

@@ -3,6 +3,7 @@ ghost use Rattle.std.specs.Prelude.{◌≡◌, ◌^◌, ◌≤◌, ◌<◌};
 ghost use Rattle.tune_text.specs.Fields.{form, whole_number, hexadecimal};
 ghost use Rattle.tune_text.specs.Handed.{number_read, numbers_read};
 
+use super::scan;
 use crate::{Number, Numbers};
 use numerals::digit;
 
@@ -45,7 +46,7 @@ fn read_numbers(line: &[u8], base: u64, least: usize, most: usize, k: usize) -> 
     let mut from = 0;
     let mut i = 0;
     while i < k {
-        let end = bytes::scan::find(line, from, line.len(), 32);
+        let end = scan::find(line, from, line.len(), 32);
         let number = read_number(&line[from..end], base, least, most);
         let last = i + 1 == k;
         if !number.well || last != (end == line.len()) {

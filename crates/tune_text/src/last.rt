@@ -66,6 +66,7 @@ pub(super) fn is_over(stage: Stage, search: Search) -> bool
 }
 
 // The last line of a search.
+#[tactic(auto, using(crate::proofs::Laws::Ending::last_lines))]
 fn search_end(search: Search) -> Text
     ensures { result ≡ text_of (search_end search) }
 {

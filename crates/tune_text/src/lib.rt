@@ -10,6 +10,7 @@ mod last;
 mod lines;
 mod opening;
 mod reading;
+mod scan;
 mod steps;
 
 ghost use Rattle.std.specs.Prelude.{◌≡◌};
@@ -121,6 +122,7 @@ pub fn is_done(state: State) -> bool
 }
 
 // One step from this state.
+#[tactic(auto, using(crate::proofs::Laws::Stepping::steps))]
 pub fn step(input: &[u8], state: State) -> Stepped
     ensures { result ≡ stepping input.now state }
 {

@@ -25,7 +25,8 @@ fn put(text: Text, word: &[u8]) -> Text
 {
     let mut all = text.bytes;
     let from = text.count;
-    let n = bytes::copy(word, &mut all[from..]);
+    let n = word.len();
+    all[from..from + n].copy_from_slice(word);
     Text {
         bytes: all,
         count: from + n,

@@ -4,7 +4,7 @@ ghost use Rattle.tune_text.specs.Reading.{is_done};
 ghost use Rattle.tune_text.specs.Steps.{line_after, last_step_with, line_step};
 ghost use Rattle.tune_text.specs.Handed.{written};
 
-use super::{is_done, last, lines, reading};
+use super::{is_done, last, lines, reading, scan};
 use crate::{Stage, State, Stepped, Text};
 
 // The number of the line after line i.
@@ -40,7 +40,7 @@ pub(super) fn line_step(input: &[u8], state: State) -> Stepped
         let text = last::last_line(stage, search);
         return last_step(state, text);
     }
-    let end = bytes::scan::find(input, position, input.len(), 10);
+    let end = scan::find(input, position, input.len(), 10);
     if end >= input.len() {
         let text = lines::bad(state.line);
         return last_step(state, text);
@@ -76,6 +76,6 @@ pub(super) fn collect(text: Text, buffer: &mut [u8], count: usize) -> usize
 {
     let line = text.bytes;
     let k = text.count;
-    bytes::copy(&line[..k], &mut buffer[count..]);
+    buffer[count..count + k].copy_from_slice(&line[..k]);
     count + k
 }

@@ -5,9 +5,10 @@ use mathlib.Core.List.{List, [], ◌∷◌}
 use Prim.Native.Nat.{ℕ, suc, ◌+◌, ◌-◌, ◌≤◌, ◌<◌}
 use native.Mathlib.Omega.{arith}
 use lib.ListN.{length, take, drop, length-drop}
-use lib.Seq.{take_all, take-length, drop-drop}
+use lib.Seq.{take_all, drop-drop}
 use lib.Dec.{eqb}
-use Rattle.bytes.specs.Bytes.{slice, index_of, index_after}
+use Rattle.std.specs.Prelude.{slice_range}
+use Rattle.tune_text.specs.Scan.{index_of}
 use Rattle.tune_text.specs.Fields.{cut, onto, Form, is_number, field_value}
 use Rattle.tune_text.specs.Handed.{number_read}
 
@@ -15,24 +16,24 @@ use Rattle.tune_text.specs.Handed.{number_read}
 
 -- a text with b in it: the first piece is what stands before the first b, and the others are those of what stands after it
 pub cut_line : (b : ℕ) (xs : List ℕ) → index_of b xs < length xs → cut b xs ≡ take (index_of b xs) xs ∷ cut b (drop (suc (index_of b xs)) xs)
-unfolding index_of index_after cut
+unfolding index_of cut
 cut_line b [] h = absurd (omega arith)
 cut_line b (x ∷ xs) h = go (eqb x b) (cut_line b xs) h
   where
     go : (t : Bool) → (index_of b xs < length xs → cut b xs ≡ take (index_of b xs) xs ∷ cut b (drop (suc (index_of b xs)) xs))
-        → index_after t (index_of b xs) < length (x ∷ xs)
+        → cond t 0 (suc (index_of b xs)) < length (x ∷ xs)
         → cond t ([] ∷ cut b xs) (onto x (cut b xs))
-        ≡ take (index_after t (index_of b xs)) (x ∷ xs) ∷ cut b (drop (suc (index_after t (index_of b xs))) (x ∷ xs))
+        ≡ take (cond t 0 (suc (index_of b xs))) (x ∷ xs) ∷ cut b (drop (suc (cond t 0 (suc (index_of b xs)))) (x ∷ xs))
     go true ih l = refl
     go false ih l = ap (onto x) (ih (omega arith))
 
 -- a text without b is its only piece
 pub cut_last : (b : ℕ) (xs : List ℕ) → length xs ≤ index_of b xs → cut b xs ≡ xs ∷ []
-unfolding index_of index_after cut
+unfolding index_of cut
 cut_last b [] h = refl
 cut_last b (x ∷ xs) h = go (eqb x b) (cut_last b xs) h
   where
-    go : (t : Bool) → (length xs ≤ index_of b xs → cut b xs ≡ xs ∷ []) → length (x ∷ xs) ≤ index_after t (index_of b xs)
+    go : (t : Bool) → (length xs ≤ index_of b xs → cut b xs ≡ xs ∷ []) → length (x ∷ xs) ≤ cond t 0 (suc (index_of b xs))
         → cond t ([] ∷ cut b xs) (onto x (cut b xs)) ≡ (x ∷ xs) ∷ []
     go true ih l = absurd (omega arith)
     go false ih l = ap (onto x) (ih (omega arith))
@@ -53,13 +54,14 @@ cut_some b (x ∷ xs) = go (eqb x b) (cut b xs)
 
 -- the index of the first b from an index on, by what is left of the text from there
 pub index_from :
-    (b : ℕ) (xs : List ℕ) (from end : ℕ) → end ≡ from + index_of b (slice from (length xs) xs) → end ≡ from + index_of b (drop from xs)
-unfolding slice
-index_from b xs from end found = found ∙ ap (λ (l : List ℕ). from + index_of b (drop from l)) (take-length xs)
+    (b : ℕ) (xs : List ℕ) (from end : ℕ) → end ≡ from + index_of b (slice_range xs from (length xs)) → end ≡ from + index_of b (drop from xs)
+index_from b xs from end found =
+    let all : length (drop from xs) ≤ length xs - from = simp length-drop (omega arith) in
+    found ∙ ap (λ (l : List ℕ). from + index_of b l) (take_all (length xs - from) (drop from xs) all)
 
 -- ---- the pieces from an index on, end being the index of the first b from there, or the length where there is none
 
-module _ (b : ℕ) (xs : List ℕ) (from end : ℕ) (within : from ≤ length xs) (found : end ≡ from + index_of b (slice from (length xs) xs)) where
+module _ (b : ℕ) (xs : List ℕ) (from end : ℕ) (within : from ≤ length xs) (found : end ≡ from + index_of b (slice_range xs from (length xs))) where
   -- of the pieces from an index on, the first goes up to end, the next b, and the others are those from the index after end
   pub cut_next : end < length xs → cut b (drop from xs) ≡ take (end - from) (drop from xs) ∷ cut b (drop (end + 1) xs)
   cut_next h =

@@ -8,7 +8,7 @@ use native.Mathlib.Omega.{arith}
 use lib.ListN.{length, take, drop, length-drop}
 use lib.Dec.{leb, ltb}
 use borrow.Author.Tests.{ltb-true, ltb-false, leb-true, leb-false}
-use Rattle.bytes.specs.Bytes.{index_of}
+use Rattle.tune_text.specs.Scan.{index_of}
 use Rattle.rules.proofs.Laws.Tests.{cond_elim}
 use Rattle.tune_text.specs.Fields.{newline}
 use Rattle.tune_text.specs.Lines.{bad_line}
@@ -50,7 +50,7 @@ step_cases bytes s P done long over line last =
     (λ e. long d (leb-false _ _ e)))
 
 -- a step once all is done prints nothing and changes nothing
-step_done : (bytes : List ℕ) (s : State) → is_done s.progress.stage ≡ true → stepping bytes s ≡ record { state = s; text = text_of [] }
+pub step_done : (bytes : List ℕ) (s : State) → is_done s.progress.stage ≡ true → stepping bytes s ≡ record { state = s; text = text_of [] }
 unfolding stepping
 step_done bytes s d = rw d
 

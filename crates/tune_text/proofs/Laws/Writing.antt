@@ -1,10 +1,10 @@
 -- Laws on a line in the making: its bytes, its room, and what it is with more bytes. Assumes nothing.
 use mathlib.Core.Path.{◌≡◌, sym, ap, ◌∙◌}
-use mathlib.Core.List.{List, [], ◌++◌, append-nil, append_assoc}
+use mathlib.Core.List.{List, [], ◌++◌, append_assoc}
 use Prim.Native.Nat.{ℕ, ◌+◌, ◌-◌, ◌≤◌}
 use native.Mathlib.Omega.{arith}
-use lib.ListN.{length, take, drop, replicate, length-append, length-replicate, length-drop, drop_of_length-le, replicate-append-replicate}
-use lib.Seq.{take_all, take-length, take-append_seam, drop_at}
+use lib.ListN.{length, drop, replicate, length-append, length-replicate, replicate-append-replicate}
+use lib.Seq.{take-append_seam, drop_at}
 use Rattle.rules.specs.declared.Cause.TheVariants.{Settled, Budget}
 use Rattle.tune_text.specs.Lines.{end_and}
 use Rattle.tune_text.specs.Handed.{text_of, written, Room}
@@ -72,17 +72,16 @@ then_more t u xs e v ys f = rw (← append_assoc (written t) xs ys) (then_known 
 drop_replicate : (i j a : ℕ) → drop i (replicate (i + j) a) ≡ replicate j a
 drop_replicate i j a = rw (← replicate-append-replicate) (drop_at (replicate i a) (replicate j a) i (length-replicate i a))
 
--- zs is what stands after a line's bytes, with the bytes ys stored over the first of it: in its place it makes the line with ys
+-- a line with the bytes zs, which are ys, in the place of the zeros after its own is the line with ys
 pub put_known :
-    (t : Text) (ys zs : List ℕ) (m : ℕ) → Room (length ys) t → m ≡ length ys
-    → zs ≡ take (length ys) ys ++ drop (length ys) (take (192 - t.count) (drop t.count t.bytes))
-    → record { bytes = written t ++ (zs ++ drop (192 - t.count) (drop t.count t.bytes)); count = t.count + m } ≡ text_of (written t ++ ys)
-put_known t ys zs m r e f =
+    (t : Text) (ys zs : List ℕ) → Room (length ys) t → zs ≡ ys
+    → record { bytes = written t ++ (zs ++ drop (t.count + length ys - t.count) (drop t.count t.bytes)); count = t.count + length ys }
+    ≡ text_of (written t ++ ys)
+put_known t ys zs r e =
     let left : ℕ = 192 - (t.count + length ys) in
     let some : 192 - t.count ≡ length ys + left = omega arith in
-    let all : length (drop t.count t.bytes) ≤ 192 - t.count = simp length-drop (omega (arith, length_bytes t _ r)) in
-    let over : zs ≡ ys ++ replicate left 0 = f ∙ rw (take-length, take_all (192 - t.count) _ all, rest_zeros t _ r, some, drop_replicate) in
-    rw (drop_of_length-le _ all, over, e, length-append, length_written t _ r, append-nil, append_assoc)
+    let k : t.count + length ys - t.count ≡ length ys = omega arith in
+    rw (e, k, rest_zeros t _ r, some, drop_replicate, length-append, length_written t _ r, append_assoc)
 
 -- ---- the last line
 
