@@ -1,5 +1,6 @@
 -- `engine::sound::tell_verdict` meets its contract. The test by the parts of the search is that of the rules; a sound search has readings left. Assumes nothing.
 use mathlib.Core.Path.{sym, ◌∙◌}
+use Prim.Native.Nat.{◌+◌}
 use native.Mathlib.Omega.{arith}
 use borrow.Author.Tests.{le-leb, lt-leb, eq-eqb, ne_eqb, not-true, not-false}
 use Rattle.rules.specs.Calls.{tell_verdict}
@@ -19,7 +20,7 @@ overflow_add-s c = omega (arith, below c.args.s (sym (sound_as c.args.s c.sound.
 
 pub returns-then-number-s : goal.returns-then-number-s
 unfolding tell_verdict
-returns-then-number-s c = rw (sym c.is_ended.ensures ∙ c.if-is_ended.false, sym (sound_as c.args.s c.sound.ensures c.held_by.ensures) ∙ not-false _ c.if-not-sound.false-raw, ne_eqb _ _ c.if-number-s.true)
+returns-then-number-s c = rw (sym c.is_ended.ensures ∙ c.if-is_ended.false, sym (sound_as c.args.s c.sound.ensures c.held_by.ensures) ∙ not-false _ c.if-not-sound.false-raw, ne_eqb c.args.number (c.args.s.readings + 1) c.if-number-s.true)
 
 pub returns-then-cost-le-MAX_COST : goal.returns-then-cost-le-MAX_COST
 unfolding tell_verdict
