@@ -119,9 +119,9 @@ pub sound_by_lem : (s : Search) → sound_by (held_of s) ≡ sound s
 unfolding sound
 sound_by_lem s = rw (order_unless (eqb s.counts.builds 0) s.standing (s.setup.n + 1), order_by s.gathered (gathered_in s.phase)) (simp and_assoc)
 
--- so a test r of the parts h of s shows it
-pub sound_as : (s : Search) {r : Bool} {h : Held} → r ≡ sound_by h → h ≡ held_of s → r ≡ sound s
-sound_as s e f = e ∙ ap sound_by f ∙ sound_by_lem s
+-- so the outcome b of the test r of these parts is that of the rules
+pub sound_as : (s : Search) {r b : Bool} {h : Held} → r ≡ sound_by h → h ≡ held_of s → r ≡ b → sound s ≡ b
+sound_as s e f t = sym (e ∙ ap sound_by f ∙ sound_by_lem s) ∙ t
 
 -- ---- what the test for a sound search tells
 

@@ -10,8 +10,8 @@ returns-then-is_ended c = rw (sym c.is_ended.ensures ∙ c.if-is_ended.true)
 
 pub returns-then-sound : goal.returns-then-sound
 unfolding ask_verdict
-returns-then-sound c = rw (sym c.is_ended.ensures ∙ c.if-is_ended.false, sym (sound_as c.args.s c.sound.ensures c.held_by.ensures) ∙ c.if-sound.true)
+returns-then-sound c = rw (sym c.is_ended.ensures ∙ c.if-is_ended.false, sound_as c.args.s c.sound.ensures c.held_by.ensures c.if-sound.true)
 
 pub returns-else-sound : goal.returns-else-sound
 unfolding ask_verdict
-returns-else-sound c = rw (sym c.is_ended.ensures ∙ c.if-is_ended.false, sym (sound_as c.args.s c.sound.ensures c.held_by.ensures) ∙ c.if-sound.false)
+returns-else-sound c = rw (sym c.is_ended.ensures ∙ c.if-is_ended.false, sound_as c.args.s c.sound.ensures c.held_by.ensures c.if-sound.false)
