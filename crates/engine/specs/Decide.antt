@@ -1,5 +1,5 @@
 -- An accepted reading in two steps, as the code makes them: what it decides by the table, and what is done then.
-use Rattle.std.specs.Prelude.{Bool, true, false, ℕ, ◌*◌, ◌≤◌, ◌<◌}
+use Rattle.std.specs.Prelude.{Bool, cond, ℕ, ◌*◌, ◌≤◌, ◌<◌}
 use Rattle.rules.specs.Accept.{row1, row2, row3, wins, wins_expanded, better, reflected_vertex, built_on, taken, waiting, shrinking, shrunk_on, probed_on}
 use Rattle.rules.specs.declared.Vertex.{Vertex}
 use Rattle.rules.specs.declared.Search.{Search}
@@ -11,25 +11,16 @@ use Rattle.engine.specs.declared.stop.Piece.TheVariants.{Reflection, Expansion, 
 use Rattle.engine.specs.declared.decide.Decision.{Decision}
 use Rattle.engine.specs.declared.decide.Decision.TheVariants.{Build, Take, Wait, Shrink, Shrunk, Probe, Nothing}
 
--- of two decisions the first where the test holds, else the second
-abbrev pub either : Bool → Decision → Decision → Decision
-either true a b = a
-either false a b = b
-
--- what r's cost f decides, by the tests of the first three rows of the table
-abbrev pub row_by : ℕ → Bool → Bool → Bool → Decision
-row_by f first second third =
-    either first (Wait (Expanding f))
-    (either second (Take Reflection)
-    (either third (Wait (Contracting Outside f)) (Wait (Contracting Inside f))))
-
--- r told: the four rows of the table
+-- r told: the four rows of the table, f being its cost
 abbrev pub row_of : ℕ → Search → Decision
-row_of f s = row_by f (row1 f s) (row2 f s) (row3 f s)
+row_of f s =
+    cond (row1 f s) (Wait (Expanding f))
+    (cond (row2 f s) (Take Reflection)
+    (cond (row3 f s) (Wait (Contracting Outside f)) (Wait (Contracting Inside f))))
 
 -- the outside or inside point told: taken, or a shrink begins
 abbrev pub side_of : Bool → Decision
-side_of wins = either wins (Take Contraction) Shrink
+side_of wins = cond wins (Take Contraction) Shrink
 
 -- what a reading of cost f decides in each phase
 abbrev pub decision_in : Phase → ℕ → Search → Decision
@@ -43,13 +34,8 @@ decision_in (Ended cause) f s = Nothing
 
 -- the vertex that the reading v brings: where e is told, e or r
 abbrev pub kept_in : Phase → Vertex → Search → Vertex
-kept_in (Building i) v s = v
-kept_in Reflecting v s = v
 kept_in (Expanding fr) v s = better (wins_expanded fr v.cost s) v (reflected_vertex fr s)
-kept_in (Contracting side fr) v s = v
-kept_in (Shrinking j) v s = v
-kept_in (Probing p) v s = v
-kept_in (Ended cause) v s = v
+kept_in _ v s = v
 
 -- the decision's vertex or probe number is one of its phase's trials
 abbrev pub Allowed : ℕ → Decision → Type 0

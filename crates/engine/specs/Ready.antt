@@ -18,6 +18,12 @@ Fits n (Shrinking j) = (1 ≤ j) × (j ≤ n)
 Fits n (Probing p) = p < 2 * n
 Fits n (Ended cause) = Unit {0}
 
+-- what the trial of a phase needs of its search
+pub record Askable (s : Search) (phase : Phase) : Type 0 where
+  pub low : 1 ≤ s.setup.n
+  pub high : s.setup.n ≤ 8
+  pub fits : Fits s.setup.n phase
+
 -- each count is at most the largest budget, so that one more of it fits 64 bits
 pub record CountsFit (c : Counts) : Type 0 where
   pub builds : c.builds ≤ max_budget

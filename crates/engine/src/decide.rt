@@ -1,9 +1,10 @@
 // What an accepted reading decides by the table of "Iteration", and which vertex it brings.
-ghost use Rattle.std.specs.Prelude.{◌≡◌, ◌≤◌, ltb};
-ghost use Rattle.rules.specs.Accept.{better, wins_expanded, reflected_vertex, wins};
-ghost use Rattle.engine.specs.Decide.{row_by, row_of, side_of, decision_in, kept_in};
+ghost use Rattle.std.specs.Prelude.{◌≡◌};
+ghost use Rattle.rules.specs.Accept.{wins};
+ghost use Rattle.engine.specs.Ready.{Ready};
+ghost use Rattle.engine.specs.Decide.{row_of, side_of, decision_in, kept_in};
 
-use super::point::trial_in;
+use super::point::trial;
 use super::stop::Piece;
 use rules::{Phase, Search, Side, Vertex};
 
@@ -19,41 +20,32 @@ pub(super) enum Decision {
     Nothing,
 }
 
-// The row of the table for r's cost, by the costs at places 1, n and n + 1.
-fn row(cost: u64, first: u64, last: u64, worst: u64) -> Decision
-    ensures { result ≡ row_by cost (ltb cost first) (ltb cost last) (ltb cost worst) }
+// r told: the four rows of the table, by the costs at places 1, n and n + 1.
+fn reflected_on(s: &Search, cost: u64) -> Decision
+    requires { Ready s.now }
+    ensures { result ≡ row_of cost s.now }
 {
-    if cost < first {
+    let n = s.setup.n;
+    let costs = &s.standing.costs;
+    if cost < costs[0] {
         Decision::Wait(Phase::Expanding(cost))
-    } else if cost < last {
+    } else if cost < costs[n - 1] {
         Decision::Take(Piece::Reflection)
-    } else if cost < worst {
+    } else if cost < costs[n] {
         Decision::Wait(Phase::Contracting(Side::Outside, cost))
     } else {
         Decision::Wait(Phase::Contracting(Side::Inside, cost))
     }
 }
 
-// r told: the four rows of the table.
-fn reflected_on(s: Search, cost: u64) -> Decision
-    requires { (1 ≤ s.setup.n) × (s.setup.n ≤ 8) }
-    ensures { result ≡ row_of cost s }
-{
-    let n = s.setup.n;
-    let costs = s.standing.costs;
-    row(cost, costs[0], costs[n - 1], costs[n])
-}
-
 // The outside or inside point told: it is taken, or a shrink begins.
-fn contracted_on(s: Search, side: Side, fr: u64, fc: u64) -> Decision
-    requires { s.setup.n ≤ 8 }
-    ensures { result ≡ side_of (wins side fr fc s) }
+fn contracted_on(s: &Search, side: Side, fr: u64, fc: u64) -> Decision
+    requires { Ready s.now }
+    ensures { result ≡ side_of (wins side fr fc s.now) }
 {
-    let n = s.setup.n;
-    let costs = s.standing.costs;
     let wins = match side {
         Side::Outside => fc <= fr,
-        Side::Inside => fc < costs[n],
+        Side::Inside => fc < s.standing.costs[s.setup.n],
     };
     if wins {
         Decision::Take(Piece::Contraction)
@@ -63,9 +55,9 @@ fn contracted_on(s: Search, side: Side, fr: u64, fc: u64) -> Decision
 }
 
 // What a reading of this cost decides in each phase.
-pub(super) fn decided(s: Search, phase: Phase, cost: u64) -> Decision
-    requires { (1 ≤ s.setup.n) × (s.setup.n ≤ 8) }
-    ensures { result ≡ decision_in phase cost s }
+pub(super) fn decided(s: &Search, phase: Phase, cost: u64) -> Decision
+    requires { Ready s.now }
+    ensures { result ≡ decision_in phase cost s.now }
 {
     match phase {
         Phase::Building(i) => Decision::Build(i),
@@ -78,31 +70,16 @@ pub(super) fn decided(s: Search, phase: Phase, cost: u64) -> Decision
     }
 }
 
-// e told: e is kept where it is lower than r, else r.
-fn expanded_on(s: Search, fr: u64, v: Vertex) -> Vertex
-    requires { (1 ≤ s.setup.n) × (s.setup.n ≤ 8) }
-    ensures { result ≡ better (wins_expanded fr v.cost s) v (reflected_vertex fr s) }
-{
-    if v.cost < fr {
-        v
-    } else {
-        let point = trial_in(s, Phase::Reflecting);
-        Vertex { point, cost: fr }
-    }
-}
-
-// The vertex that the reading v brings in each phase: its own but where e is told.
-pub(super) fn kept(s: Search, phase: Phase, v: Vertex) -> Vertex
-    requires { (1 ≤ s.setup.n) × (s.setup.n ≤ 8) }
-    ensures { result ≡ kept_in phase v s }
+// The vertex that the reading v brings: r where e is told and not lower than r, else its own.
+pub(super) fn kept(s: &Search, phase: Phase, v: Vertex) -> Vertex
+    requires { Ready s.now }
+    ensures { result ≡ kept_in phase v s.now }
 {
     match phase {
-        Phase::Building(_) => v,
-        Phase::Reflecting => v,
-        Phase::Expanding(fr) => expanded_on(s, fr, v),
-        Phase::Contracting(_, _) => v,
-        Phase::Shrinking(_) => v,
-        Phase::Probing(_) => v,
-        Phase::Ended(_) => v,
+        Phase::Expanding(fr) if fr <= v.cost => Vertex {
+            point: trial(s, Phase::Reflecting),
+            cost: fr,
+        },
+        _ => v,
     }
 }

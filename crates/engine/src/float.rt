@@ -1,32 +1,25 @@
 // The arithmetic of one axis: the clamp, and the form of every move.
-ghost use Rattle.std.specs.Prelude.{◌≡◌, ◌≤◌};
-ghost use Rattle.rules.specs.Binary64.{clamp, float};
+ghost use Rattle.std.specs.Prelude.{◌≡◌};
+ghost use Rattle.rules.specs.Binary64.{clamp};
 ghost use Rattle.rules.specs.Trial.{move};
 
 use rules::Axis;
 
-// v within the limits: a NaN and whatever is below lo become lo, whatever is above hi becomes hi.
-pub(super) fn clamp(lo: f64, hi: f64, v: f64) -> f64
-    ensures { result ≡ clamp lo hi v }
+// v within the limits: a NaN and whatever is below lo become lo, whatever is above hi becomes hi. It is written out since document 01
+// gives its two tests, and the library's clamp keeps a NaN.
+pub(super) fn clamp(x: &Axis, v: f64) -> f64
+    ensures { result ≡ clamp x.now.lo x.now.hi v }
 {
-    if lo <= v {
-        if v <= hi { v } else { hi }
+    if x.lo <= v {
+        if v <= x.hi { v } else { x.hi }
     } else {
-        lo
+        x.lo
     }
 }
 
-// A count of axes as a float.
-pub(super) fn whole(n: usize) -> f64
-    requires { n ≤ 8 }
-    ensures { result ≡ float n }
-{
-    n as f64
-}
-
 // from + k * (to - back), the form of every move, clamped to the axis.
-pub(super) fn moved(x: Axis, from: f64, k: f64, to: f64, back: f64) -> f64
-    ensures { result ≡ clamp x.lo x.hi (move from k to back) }
+pub(super) fn moved(x: &Axis, from: f64, k: f64, to: f64, back: f64) -> f64
+    ensures { result ≡ clamp x.now.lo x.now.hi (move from k to back) }
 {
-    clamp(x.lo, x.hi, from + k * (to - back))
+    clamp(x, from + k * (to - back))
 }

@@ -3,11 +3,8 @@
 
 #![tactic(auto)]
 
-use rules::{
-    Asked, Axis, Coefficients, Opened, Refusal, RuleChoice, Search, Shown, Told, Verdict, Vertex,
-};
+use rules::{Asked, Opened, Opening, Refusal, Search, Vertex};
 
-mod answer;
 mod change;
 mod decide;
 mod float;
@@ -24,98 +21,48 @@ ghost use Rattle.rules.specs.Refusals.{number_of, axis_of};
 ghost use Rattle.rules.specs.Opening.{opening};
 ghost use Rattle.rules.specs.Calls.{asking, telling, showing};
 
-// Opens a search: n axes, eight records of which those past n are not read, a stopping rule or none, the
-// coefficients and the budget. Refusals 1 to 7 come with a closed search.
-pub fn open_search(
-    n: usize,
-    axes: [Axis; 8],
-    rule: RuleChoice,
-    coefficients: Coefficients,
-    budget: u64,
-) -> Opened
-    ensures { result ≡ opening n axes rule coefficients budget }
+// Opens a search. Where one of the refusals 1 to 7 is the verdict, the search is the closed one.
+pub fn open_search(given: &Opening) -> Opened
+    ensures { result ≡ opening given.now.n given.now.axes given.now.rule given.now.coefficients given.now.budget }
 {
-    let verdict = opening::open_verdict(n, axes, rule, coefficients, budget);
-    match verdict {
-        Verdict::Accepted => {
-            let search = opening::fresh(n, axes, rule, coefficients, budget);
-            Opened {
-                verdict: Verdict::Accepted,
-                search,
-            }
-        }
-        Verdict::Refused(r) => {
-            let search = opening::closed();
-            Opened {
-                verdict: Verdict::Refused(r),
-                search,
-            }
-        }
-    }
+    let verdict = opening::open_verdict(given);
+    let search = match verdict {
+        Ok(()) => opening::fresh(given),
+        Err(_) => opening::closed(),
+    };
+    Opened { verdict, search }
 }
 
-// The trial to measure next, with its reading number. The search is returned as given.
-pub fn ask(search: Search) -> Asked
-    ensures { result ≡ asking search }
+// The trial to measure next, with its reading number.
+pub fn ask(search: &Search) -> Result<Asked, Refusal>
+    ensures { result ≡ asking search.now }
 {
-    let verdict = sound::ask_verdict(search);
-    match verdict {
-        Verdict::Accepted => {
-            let setup = search.setup;
-            let points = search.standing.points;
-            let center = search.center;
-            let best = search.best.point;
-            let phase = search.phase;
-            let point = point::trial(setup, &points, &center, &best, phase);
-            Asked {
-                verdict: Verdict::Accepted,
-                number: search.readings + 1,
-                point,
-                search,
-            }
-        }
-        Verdict::Refused(r) => answer::refused_ask(search, r),
-    }
+    sound::ask_verdict(search)?;
+    Ok(Asked {
+        number: search.readings + 1,
+        point: point::trial(search, search.phase),
+    })
 }
 
-// Takes the reading of that number: the trial's cost. A refused one returns the search as given.
-pub fn tell(search: Search, number: u64, cost: u64) -> Told
-    ensures { result ≡ telling search number cost }
+// Takes the reading of that number: the trial's cost. A refused one leaves the search as it is.
+pub fn tell(search: &mut Search, number: u64, cost: u64) -> Result<(), Refusal>
+    ensures verdict { result ≡ (telling search.old number cost).verdict }
+    ensures search { search.new ≡ (telling search.old number cost).search }
 {
-    let verdict = sound::tell_verdict(search, number, cost);
-    match verdict {
-        Verdict::Accepted => {
-            let next = transition::accept(search, cost);
-            Told {
-                verdict: Verdict::Accepted,
-                search: next,
-            }
-        }
-        Verdict::Refused(r) => answer::refused_tell(search, r),
-    }
+    sound::tell_verdict(search, number, cost)?;
+    transition::accept(search, cost);
+    Ok(())
 }
 
-// The earliest reading of least cost. The search is returned as given.
-pub fn best(search: Search) -> Shown
-    ensures { result ≡ showing search }
+// The earliest reading of least cost.
+pub fn best(search: &Search) -> Result<Vertex, Refusal>
+    ensures { result ≡ showing search.now }
 {
-    let verdict = sound::best_verdict(search);
-    match verdict {
-        Verdict::Accepted => {
-            let known = search.best.point;
-            let point = point::shown(search.setup.n, known);
-            let reading = Vertex {
-                point,
-                cost: search.best.cost,
-            };
-            Shown {
-                verdict: Verdict::Accepted,
-                reading,
-                search,
-            }
-        }
-        Verdict::Refused(r) => answer::refused_best(search, r),
-    }
+    sound::best_verdict(search)?;
+    Ok(Vertex {
+        point: point::shown(search.setup.n, search.best.point),
+        cost: search.best.cost,
+    })
 }
 
 // The refusal's number in the table of document 01.
@@ -138,22 +85,12 @@ pub fn refusal_number(refusal: Refusal) -> u64
     }
 }
 
-// The axis that comes with refusals 2 to 4, counted from 1; 0 with any other.
-pub fn refusal_axis(refusal: Refusal) -> usize
+// The axis that comes with refusals 2 to 4, counted from 1.
+pub fn refusal_axis(refusal: Refusal) -> Option<usize>
     ensures { result ≡ axis_of refusal }
 {
     match refusal {
-        Refusal::AxisCount => 0,
-        Refusal::OutOfRange(axis) => axis,
-        Refusal::BadLimits(axis) => axis,
-        Refusal::BadStep(axis) => axis,
-        Refusal::BadCoefficient => 0,
-        Refusal::BadThreshold => 0,
-        Refusal::BadBudget => 0,
-        Refusal::SearchEnded => 0,
-        Refusal::CostTooHigh => 0,
-        Refusal::WrongNumber => 0,
-        Refusal::NoReading => 0,
-        Refusal::Damaged => 0,
+        Refusal::OutOfRange(axis) | Refusal::BadLimits(axis) | Refusal::BadStep(axis) => Some(axis),
+        _ => None,
     }
 }

@@ -1,12 +1,11 @@
 // The opening: its refusals 1 to 7 in table order, and the search that it gives, open or closed.
 ghost use Rattle.std.specs.Prelude.{◌≡◌, map, ◌≤◌};
-ghost use Rattle.rules.specs.Opening.{in_range, all_in_range, in_limits, in_step, axis_checks, axes_checks, in_coefficients, in_threshold, rule_of, open_verdict, start_of, keep, fresh, unread, closed, no_counts, zero_axis};
-ghost use Rattle.rules.specs.declared.Verdict.TheVariants.{Accepted};
+ghost use Rattle.rules.specs.Opening.{in_range, all_in_range, in_limits, in_step, axis_checks, axes_checks, in_coefficients, in_threshold, rule_of, open_verdict, start_of, keep, fresh, unread, closed};
 
 use super::place::blank;
 use rules::{
-    Axis, Cause, Coefficients, Counts, MAX_BUDGET, MAX_SPREAD, Phase, Refusal, Rule, RuleChoice,
-    Search, Setup, Verdict, Vertex,
+    Axis, Cause, Coefficients, Counts, MAX_BUDGET, MAX_SPREAD, Opening, Phase, Refusal, Rule,
+    Search, Setup, Vertex,
 };
 
 // Whether -1,048,576 ≤ v ≤ 1,048,576.
@@ -37,38 +36,31 @@ fn in_step(x: Axis) -> bool
     !(x.start + x.step == x.start) && !((x.hi - x.lo) / 2.0 < x.step)
 }
 
-// The verdict of checks 2, 3 and 4 on the i-th axis, counted from 1.
-fn axis_verdict(i: usize, x: Axis) -> Verdict
-    ensures { result ≡ axis_checks i x Accepted }
+// Checks 2, 3 and 4 on the i-th axis, counted from 1.
+fn axis_verdict(i: usize, x: Axis) -> Result<(), Refusal>
+    ensures { result ≡ axis_checks i x (Ok tt) }
 {
     if !all_in_range(x) {
-        return Verdict::Refused(Refusal::OutOfRange(i));
+        return Err(Refusal::OutOfRange(i));
     }
     if !in_limits(x) {
-        return Verdict::Refused(Refusal::BadLimits(i));
+        return Err(Refusal::BadLimits(i));
     }
-    if in_step(x) {
-        Verdict::Accepted
-    } else {
-        Verdict::Refused(Refusal::BadStep(i))
+    if !in_step(x) {
+        return Err(Refusal::BadStep(i));
     }
+    Ok(())
 }
 
-// The verdict of checks 2, 3 and 4 on the first n axes, lowest axis first.
-fn axes_verdict(n: usize, axes: [Axis; 8]) -> Verdict
+// Checks 2, 3 and 4 on the first n axes, lowest axis first.
+fn axes_verdict(n: usize, axes: &[Axis; 8]) -> Result<(), Refusal>
     requires { n ≤ 8 }
-    ensures { result ≡ axes_checks n 0 axes Accepted }
+    ensures { result ≡ axes_checks n 0 axes.now (Ok tt) }
 {
-    let mut left = n;
-    while 0 < left {
-        let i = n - left;
-        let verdict = axis_verdict(i + 1, axes[i]);
-        match verdict {
-            Verdict::Accepted => left -= 1,
-            Verdict::Refused(r) => return Verdict::Refused(r),
-        }
+    for i in 0..n {
+        axis_verdict(i + 1, axes[i])?;
     }
-    Verdict::Accepted
+    Ok(())
 }
 
 // Whether the coefficients pass check 5: each is in its range.
@@ -98,161 +90,90 @@ fn in_threshold(rule: Rule) -> bool
 }
 
 // The rule of an opening: spread 4 where it names none.
-fn rule_of(choice: RuleChoice) -> Rule
+fn rule_of(choice: Option<Rule>) -> Rule
     ensures { result ≡ rule_of choice }
 {
-    match choice {
-        RuleChoice::Unnamed => Rule::Spread(4),
-        RuleChoice::Named(rule) => rule,
-    }
+    choice.unwrap_or(Rule::Spread(4))
 }
 
-// The verdict of checks 1 to 7, in table order.
-pub(super) fn open_verdict(
-    n: usize,
-    axes: [Axis; 8],
-    choice: RuleChoice,
-    c: Coefficients,
-    budget: u64,
-) -> Verdict
-    ensures { result ≡ open_verdict n axes choice c budget }
+// Checks 1 to 7, in table order.
+pub(super) fn open_verdict(given: &Opening) -> Result<(), Refusal>
+    ensures { result ≡ open_verdict given.now.n given.now.axes given.now.rule given.now.coefficients given.now.budget }
 {
+    let n = given.n;
     if n < 1 || 8 < n {
-        return Verdict::Refused(Refusal::AxisCount);
+        return Err(Refusal::AxisCount);
     }
-    let verdict = axes_verdict(n, axes);
-    if let Verdict::Refused(r) = verdict {
-        return Verdict::Refused(r);
+    axes_verdict(n, &given.axes)?;
+    if !in_coefficients(given.coefficients) {
+        return Err(Refusal::BadCoefficient);
     }
-    if !in_coefficients(c) {
-        return Verdict::Refused(Refusal::BadCoefficient);
+    if !in_threshold(rule_of(given.rule)) {
+        return Err(Refusal::BadThreshold);
     }
-    if !in_threshold(rule_of(choice)) {
-        return Verdict::Refused(Refusal::BadThreshold);
+    if given.budget <= n as u64 || MAX_BUDGET < given.budget {
+        return Err(Refusal::BadBudget);
     }
-    if (n as u64) < budget && budget <= MAX_BUDGET {
-        Verdict::Accepted
-    } else {
-        Verdict::Refused(Refusal::BadBudget)
-    }
-}
-
-// An axis record of zeros.
-fn zero_axis() -> Axis
-    ensures { result ≡ zero_axis }
-{
-    Axis {
-        lo: 0.0,
-        hi: 0.0,
-        start: 0.0,
-        step: 0.0,
-    }
+    Ok(())
 }
 
 // The first n records, zero records after them.
-fn keep(n: usize, axes: [Axis; 8]) -> [Axis; 8]
-    ensures { result ≡ keep n axes }
+fn keep(n: usize, axes: &[Axis; 8]) -> [Axis; 8]
+    ensures { result ≡ keep n axes.now }
 {
-    let zero = zero_axis();
-    let mut out = axes;
-    let mut i = n;
-    while i < 8 {
-        out[i] = zero;
-        i += 1;
-    }
-    out
+    let mut kept = *axes;
+    kept[n.min(8)..].fill(Axis::default());
+    kept
 }
 
 // The start of each record.
 fn starts(axes: [Axis; 8]) -> [f64; 8]
     ensures { result ≡ map start_of axes }
 {
-    let mut out = [0.0f64; 8];
-    let mut i = 0;
-    while i < 8 {
-        let x = axes[i];
-        out[i] = x.start;
-        i += 1;
-    }
-    out
-}
-
-// All counts zero.
-fn no_counts() -> Counts
-    ensures { result ≡ no_counts }
-{
-    Counts {
-        builds: 0,
-        reflections: 0,
-        expansions: 0,
-        contractions: 0,
-        shrinks: 0,
-        probes: 0,
-        unfinished: 0,
-    }
+    axes.map(|x| x.start)
 }
 
 // The search with nothing read.
 fn unread(setup: Setup, phase: Phase, center: [f64; 8]) -> Search
     ensures { result ≡ unread setup phase center }
 {
-    let standing = blank();
-    let gathered = blank();
-    let best = Vertex {
-        point: [0.0f64; 8],
-        cost: 0,
-    };
-    let counts = no_counts();
     Search {
         setup,
         phase,
-        standing,
-        gathered,
+        standing: blank(),
+        gathered: blank(),
         center,
         readings: 0,
-        best,
-        counts,
+        best: Vertex::default(),
+        counts: Counts::default(),
     }
 }
 
 // The search of an opening that is not refused.
-pub(super) fn fresh(
-    n: usize,
-    axes: [Axis; 8],
-    choice: RuleChoice,
-    coefficients: Coefficients,
-    budget: u64,
-) -> Search
-    ensures { result ≡ fresh n axes choice coefficients budget }
+pub(super) fn fresh(given: &Opening) -> Search
+    ensures { result ≡ fresh given.now.n given.now.axes given.now.rule given.now.coefficients given.now.budget }
 {
-    let kept = keep(n, axes);
-    let rule = rule_of(choice);
+    let axes = keep(given.n, &given.axes);
     let setup = Setup {
-        n,
-        axes: kept,
-        coefficients,
-        rule,
-        budget,
+        n: given.n,
+        axes,
+        coefficients: given.coefficients,
+        rule: rule_of(given.rule),
+        budget: given.budget,
     };
-    unread(setup, Phase::Building(0), starts(kept))
+    unread(setup, Phase::Building(0), starts(axes))
 }
 
 // The search of a refused opening.
 pub(super) fn closed() -> Search
     ensures { result ≡ closed }
 {
-    let zero = zero_axis();
     let setup = Setup {
         n: 0,
-        axes: [zero; 8],
-        coefficients: Coefficients {
-            alpha: 0.0,
-            chi: 0.0,
-            beta: 0.0,
-            sigma: 0.0,
-        },
+        axes: [Axis::default(); 8],
+        coefficients: Coefficients::default(),
         rule: Rule::Spread(0),
         budget: 0,
     };
-    unread(setup, Phase::Ended(Cause::Budget), [0.0f64; 8])
+    unread(setup, Phase::Ended(Cause::Budget), [0.0; 8])
 }

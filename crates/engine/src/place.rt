@@ -1,50 +1,47 @@
 // One place of a simplex, read from and written to the flat runs of points and costs.
-ghost use Rattle.std.specs.Prelude.{◌≡◌, ◌*◌, ◌<◌, length, take, drop, []};
-ghost use Rattle.rules.specs.Simplex.{pack, place};
-ghost use Rattle.engine.specs.Places.{simplex, put_at};
+ghost use Rattle.std.specs.Prelude.{◌≡◌, ◌<◌, ◌≤◌, []};
+ghost use Rattle.rules.specs.Simplex.{pack, unpack, place};
+ghost use Rattle.engine.specs.Places.{put_at, Holds};
 
 use rules::{Simplex, Vertex};
 
 // The point at place i, counted from 0.
-pub(super) fn point_at(points: &[f64; 72], i: usize) -> [f64; 8]
-    requires { (i < 9) × (length points.now ≡ 72) }
-    ensures { result ≡ take 8 (drop (8 * i) points.now) }
+pub(super) fn point_at(s: &Simplex, i: usize) -> [f64; 8]
+    requires { i < 9 }
+    ensures { result ≡ (place s.now i).point }
 {
-    let at = 8 * i;
-    let mut out = [0.0f64; 8];
-    let mut j = 0;
-    while j < 8 {
-        out[j] = points[at + j];
-        j += 1;
-    }
-    out
+    let mut point = [0.0f64; 8];
+    point.copy_from_slice(&s.points[8 * i..8 * i + 8]);
+    point
 }
 
 // The vertex at place i, counted from 0.
-pub(super) fn place_at(points: &[f64; 72], costs: &[u64; 9], i: usize) -> Vertex
-    requires { (i < 9) × (length points.now ≡ 72) }
-    ensures { result ≡ place (simplex points.now costs.now) i }
+pub(super) fn place_at(s: &Simplex, i: usize) -> Vertex
+    requires { i < 9 }
+    ensures { result ≡ place s.now i }
 {
-    let point = point_at(points, i);
     Vertex {
-        point,
-        cost: costs[i],
+        point: point_at(s, i),
+        cost: s.costs[i],
     }
 }
 
 // Puts the vertex v at place i, counted from 0.
-pub(super) fn put(points: &mut [f64; 72], costs: &mut [u64; 9], i: usize, v: Vertex)
-    requires { (i < 9) × (length points.old ≡ 72) }
-    ensures { simplex points.new costs.new ≡ put_at (simplex points.old costs.old) i v }
+pub(super) fn put(s: &mut Simplex, i: usize, v: Vertex)
+    requires { i < 9 }
+    ensures { s.new ≡ put_at s.old i v }
 {
-    let at = 8 * i;
-    let point = v.point;
-    let mut j = 0;
-    while j < 8 {
-        points[at + j] = point[j];
-        j += 1;
-    }
-    costs[i] = v.cost;
+    s.points[8 * i..8 * i + 8].copy_from_slice(&v.point);
+    s.costs[i] = v.cost;
+}
+
+// Blanks the places from len on, counted from 0.
+pub(super) fn clear(s: &mut Simplex, len: usize)
+    requires { len ≤ 9 }
+    ensures { Holds len s.new (unpack len s.old) }
+{
+    s.points[8 * len..].fill(0.0);
+    s.costs[len..].fill(0);
 }
 
 // A simplex of nine blank places.

@@ -2,84 +2,74 @@
 ghost use Rattle.std.specs.Prelude.{◌≡◌, cond, ◌≤◌, ◌<◌};
 ghost use Rattle.rules.specs.Binary64.{0ᶠ, clamp};
 ghost use Rattle.rules.specs.Simplex.{point, first_of};
-ghost use Rattle.rules.specs.Trial.{move, stepped, probe_step, centroid, coordinate, asked};
-ghost use Rattle.engine.specs.Ready.{Fits};
-ghost use Rattle.engine.specs.Coordinate.{coordinate_by};
+ghost use Rattle.rules.specs.Trial.{move, stepped, probe_step, centroid, asked};
+ghost use Rattle.engine.specs.Ready.{Askable};
 
-use super::float::{clamp, moved, whole};
-use rules::{Axis, Coefficients, Phase, Search, Setup, Side};
+use super::float::{clamp, moved};
+use rules::{Axis, Phase, Search, Side};
 
-// c on axis a: the sum of places 1 to n in place order, divided by n.
+// c on axis a: the sum of places 1 to n in place order, divided by n. The run of 72 numbers with n beside it is document 01's.
+#[tactic(auto, unfolding(rules::specs::Trial::sum_to, rules::specs::Trial::centroid))]
 fn centroid(points: &[f64; 72], n: usize, a: usize) -> f64
     requires { (1 ≤ n) × (n ≤ 8) × (a < 8) }
     ensures { result ≡ centroid n points.now a }
 {
     let mut sum = points[a];
-    let mut i = 0;
-    while i + 1 < n {
-        i += 1;
-        sum = sum + points[8 * i + a];
+    for i in 1..n {
+        sum += points[8 * i + a];
     }
-    sum / whole(n)
+    sum / n as f64
 }
 
 // One step from v along its own axis, back where the step would pass hi; v itself on every other axis.
-fn built(x: Axis, v: f64, changed: bool) -> f64
-    ensures { result ≡ clamp x.lo x.hi (cond changed (stepped x v) v) }
+fn built(x: &Axis, v: f64, changed: bool) -> f64
+    ensures { result ≡ clamp x.now.lo x.now.hi (cond changed (stepped x.now v) v) }
 {
-    let u = v + x.step;
-    if changed {
-        if u <= x.hi {
-            clamp(x.lo, x.hi, u)
-        } else {
-            clamp(x.lo, x.hi, v - x.step)
-        }
+    let u = if !changed {
+        v
+    } else if v + x.step <= x.hi {
+        v + x.step
     } else {
-        clamp(x.lo, x.hi, v)
-    }
+        v - x.step
+    };
+    clamp(x, u)
 }
 
 // Probe p from v on axis a: even ones forward, odd ones back, two for each axis.
-fn probed(x: Axis, v: f64, p: usize, a: usize) -> f64
-    ensures { result ≡ clamp x.lo x.hi (probe_step x v p a) }
+fn probed(x: &Axis, v: f64, p: usize, a: usize) -> f64
+    ensures { result ≡ clamp x.now.lo x.now.hi (probe_step x.now v p a) }
 {
     let d = x.step * 0.0009765625;
-    if p / 2 == a {
-        if p % 2 == 0 {
-            clamp(x.lo, x.hi, v + d)
-        } else {
-            clamp(x.lo, x.hi, v - d)
-        }
+    let u = if p / 2 != a {
+        v
+    } else if p % 2 == 0 {
+        v + d
     } else {
-        clamp(x.lo, x.hi, v)
-    }
+        v - d
+    };
+    clamp(x, u)
 }
 
 // k times as far from c as r, which is the clamped point, towards it.
-fn beyond(x: Axis, c: f64, w: f64, alpha: f64, k: f64) -> f64
-    ensures { result ≡ clamp x.lo x.hi (move c k (clamp x.lo x.hi (move c alpha c w)) c) }
+fn beyond(x: &Axis, c: f64, w: f64, alpha: f64, k: f64) -> f64
+    ensures { result ≡ clamp x.now.lo x.now.hi (move c k (clamp x.now.lo x.now.hi (move c alpha c w)) c) }
 {
-    let u = c + alpha * (c - w);
-    let r = clamp(x.lo, x.hi, u);
+    let r = moved(x, c, alpha, c, w);
     moved(x, c, k, r, c)
 }
 
-// Coordinate a of the trial of each phase, by the axis count, that axis and the coefficients. An ended search has none.
-fn coordinate(
-    n: usize,
-    x: Axis,
-    k: Coefficients,
-    points: &[f64; 72],
-    center: &[f64; 8],
-    best: &[f64; 8],
-    phase: Phase,
-    a: usize,
-) -> f64
-    requires { (1 ≤ n) × (n ≤ 8) × (a < 8) × Fits n phase }
-    ensures { result ≡ coordinate_by n x k points.now center.now best.now phase a }
+// Coordinate a of the trial of each phase. An ended search has none.
+#[tactic(auto, unfolding(rules::specs::Trial::built, rules::specs::Trial::reflected, rules::specs::Trial::expanded, rules::specs::Trial::contracted, rules::specs::Trial::shrunk, rules::specs::Trial::probed))]
+fn coordinate(s: &Search, phase: Phase, a: usize) -> f64
+    requires { (Askable s.now phase) × (a < 8) }
+    ensures { result ≡ asked s.now phase a }
 {
+    let n = s.setup.n;
+    let x = &s.setup.axes[a];
+    let k = &s.setup.coefficients;
+    let points = &s.standing.points;
     match phase {
-        Phase::Building(i) => built(x, center[a], i == a + 1),
+        Phase::Building(i) => built(x, s.center[a], i == a + 1),
         Phase::Reflecting => {
             let c = centroid(points, n, a);
             moved(x, c, k.alpha, c, points[8 * n + a])
@@ -88,53 +78,31 @@ fn coordinate(
             let c = centroid(points, n, a);
             beyond(x, c, points[8 * n + a], k.alpha, k.chi)
         }
-        Phase::Contracting(side, _) => {
+        Phase::Contracting(Side::Outside, _) => {
             let c = centroid(points, n, a);
-            match side {
-                Side::Outside => beyond(x, c, points[8 * n + a], k.alpha, k.beta),
-                Side::Inside => moved(x, c, k.beta, points[8 * n + a], c),
-            }
+            beyond(x, c, points[8 * n + a], k.alpha, k.beta)
+        }
+        Phase::Contracting(Side::Inside, _) => {
+            let c = centroid(points, n, a);
+            moved(x, c, k.beta, points[8 * n + a], c)
         }
         Phase::Shrinking(j) => moved(x, points[a], k.sigma, points[8 * j + a], points[a]),
-        Phase::Probing(p) => probed(x, best[a], p, a),
-        Phase::Ended(_) => 0.0 / 0.0,
+        Phase::Probing(p) => probed(x, s.best.point[a], p, a),
+        Phase::Ended(_) => f64::NAN,
     }
 }
 
-// The point asked in this phase, axis by axis, by the parts of a search that it depends on.
-pub(super) fn trial(
-    setup: Setup,
-    points: &[f64; 72],
-    center: &[f64; 8],
-    best: &[f64; 8],
-    phase: Phase,
-) -> [f64; 8]
-    requires { (1 ≤ setup.n) × (setup.n ≤ 8) × Fits setup.n phase }
-    ensures { result ≡ point setup.n (coordinate setup points.now center.now best.now phase) }
+// The point that the search would ask in this phase, axis by axis.
+#[tactic(auto, unfolding(rules::specs::Simplex::up_to))]
+pub(super) fn trial(s: &Search, phase: Phase) -> [f64; 8]
+    requires { Askable s.now phase }
+    ensures { result ≡ point s.now.setup.n (asked s.now phase) }
 {
-    let n = setup.n;
-    let axes = setup.axes;
-    let k = setup.coefficients;
-    let mut out = [0.0f64; 8];
-    let mut a = 0;
-    while a < n {
-        let x = axes[a];
-        out[a] = coordinate(n, x, k, points, center, best, phase, a);
-        a += 1;
+    let mut out = [0.0; 8];
+    for a in 0..s.setup.n {
+        out[a] = coordinate(s, phase, a);
     }
     out
-}
-
-// The point that the search would ask in this phase.
-pub(super) fn trial_in(search: Search, phase: Phase) -> [f64; 8]
-    requires { (1 ≤ search.setup.n) × (search.setup.n ≤ 8) × Fits search.setup.n phase }
-    ensures { result ≡ point search.setup.n (asked search phase) }
-{
-    let setup = search.setup;
-    let points = search.standing.points;
-    let center = search.center;
-    let best = search.best.point;
-    trial(setup, &points, &center, &best, phase)
 }
 
 // The first n coordinates of a point, zero after them.
@@ -142,10 +110,6 @@ pub(super) fn shown(n: usize, point: [f64; 8]) -> [f64; 8]
     ensures { result ≡ first_of n 0ᶠ point }
 {
     let mut out = point;
-    let mut a = n;
-    while a < 8 {
-        out[a] = 0.0;
-        a += 1;
-    }
+    out[n.min(8)..].fill(0.0);
     out
 }

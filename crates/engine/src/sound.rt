@@ -1,54 +1,24 @@
-// The verdicts of the later calls: refusal 12, by the parts of a search that it reads, then 8 to 11.
-ghost use Rattle.std.specs.Prelude.{◌≡◌, ◌≤◌};
-ghost use Rattle.engine.specs.HeldBy.{held_of, places_of, sound_held, sound_by};
-ghost use Rattle.rules.specs.Calls.{sound_phase, gathered_in, in_order, all_costs, sound_rule, sound_counts, ask_verdict, tell_verdict, best_verdict};
+// The verdicts of the later calls: refusal 12, then 8 to 11.
+ghost use Rattle.std.specs.Prelude.{◌≡◌, ◌&&◌, ◌≤◌};
+ghost use Rattle.rules.specs.Simplex.{unpack};
+ghost use Rattle.rules.specs.Calls.{sound_phase, gathered_in, standing_of, gathered_of, in_order, all_costs, sound_rule, sound_counts, sound, undamaged, ask_verdict, tell_verdict, best_verdict};
 
 use super::change::is_ended;
-use rules::{Counts, MAX_BUDGET, MAX_COST, MAX_SPREAD, Phase, Refusal, Rule, Search, Verdict};
-
-// What refusal 12 tests of a search: its places by their costs, its best by its cost.
-#[derive(Clone, Copy)]
-struct Held {
-    n: usize,
-    budget: u64,
-    rule: Rule,
-    phase: Phase,
-    counts: Counts,
-    readings: u64,
-    costs: [u64; 9],
-    others: [u64; 9],
-    best: u64,
-}
+use rules::{Counts, MAX_BUDGET, MAX_COST, MAX_SPREAD, Phase, Refusal, Rule, Search, Simplex};
 
 // Whether no cost is above the largest.
-fn all_costs(costs: [u64; 9]) -> bool
-    ensures { result ≡ all_costs costs }
+fn all_costs(costs: &[u64]) -> bool
+    ensures { result ≡ all_costs costs.now }
 {
-    let mut i = 0;
-    while i < 9 {
-        if costs[i] <= MAX_COST {
-            i += 1;
-        } else {
-            return false;
-        }
-    }
-    true
+    costs.iter().all(|&c| c <= MAX_COST)
 }
 
-// Whether the first m places, by their costs, are in cost order.
-fn in_order(costs: [u64; 9], m: usize) -> bool
+// Whether the first m places are in cost order.
+fn in_order(s: &Simplex, m: usize) -> bool
     requires { m ≤ 9 }
-    ensures { result ≡ in_order (places_of m costs) }
+    ensures { result ≡ in_order (unpack m s.now) }
 {
-    let mut i = 1;
-    while i < m {
-        if costs[i - 1] <= costs[i] {
-            i += 1;
-        } else {
-            return false;
-        }
-    }
-    true
+    s.costs[..m].is_sorted()
 }
 
 // Whether a phase's vertex or probe number is one of its trials, and its cost in range.
@@ -58,12 +28,10 @@ fn sound_phase(n: usize, builds: u64, phase: Phase) -> bool
 {
     match phase {
         Phase::Building(i) => i <= n && (builds == 0 || 1 <= i),
-        Phase::Reflecting => true,
-        Phase::Expanding(f) => f <= MAX_COST,
-        Phase::Contracting(_, f) => f <= MAX_COST,
+        Phase::Expanding(f) | Phase::Contracting(_, f) => f <= MAX_COST,
         Phase::Shrinking(j) => 1 <= j && j <= n,
         Phase::Probing(p) => p < 2 * n,
-        Phase::Ended(_) => true,
+        Phase::Reflecting | Phase::Ended(_) => true,
     }
 }
 
@@ -72,13 +40,8 @@ fn gathered_in(phase: Phase) -> usize
     ensures { result ≡ gathered_in phase }
 {
     match phase {
-        Phase::Building(i) => i,
-        Phase::Reflecting => 0,
-        Phase::Expanding(_) => 0,
-        Phase::Contracting(_, _) => 0,
-        Phase::Shrinking(j) => j,
-        Phase::Probing(_) => 0,
-        Phase::Ended(_) => 0,
+        Phase::Building(i) | Phase::Shrinking(i) => i,
+        _ => 0,
     }
 }
 
@@ -88,14 +51,13 @@ fn sound_rule(rule: Rule) -> bool
 {
     match rule {
         Rule::Spread(e) => e <= MAX_SPREAD,
-        Rule::Moved(_) => true,
-        Rule::Size(_) => true,
+        _ => true,
     }
 }
 
 // Whether no count is above the budget.
-fn sound_counts(budget: u64, c: Counts) -> bool
-    ensures { result ≡ sound_counts budget c }
+fn sound_counts(budget: u64, c: &Counts) -> bool
+    ensures { result ≡ sound_counts budget c.now }
 {
     c.builds <= budget
         && c.reflections <= budget
@@ -106,108 +68,79 @@ fn sound_counts(budget: u64, c: Counts) -> bool
         && c.unfinished <= budget
 }
 
-// What refusal 12 tests of a search.
-fn held_by(s: Search) -> Held
-    ensures { result ≡ held_of s }
+// Whether the vertices that a search holds are in cost order.
+#[tactic(auto, unfolding(rules::specs::Calls::in_order))]
+fn ordered(s: &Search) -> bool
+    requires { (s.now.setup.n ≤ 8) × (gathered_in s.now.phase ≤ 9) }
+    ensures { result ≡ (in_order (standing_of s.now) && in_order (gathered_of s.now)) }
 {
-    let setup = s.setup;
-    let rule = setup.rule;
-    let phase = s.phase;
-    let counts = s.counts;
-    let costs = s.standing.costs;
-    let others = s.gathered.costs;
-    Held {
-        n: setup.n,
-        budget: setup.budget,
-        rule,
-        phase,
-        counts,
-        readings: s.readings,
-        costs,
-        others,
-        best: s.best.cost,
-    }
-}
-
-// Whether the vertices that the search holds are in order, and its costs in range.
-fn sound_held(h: Held) -> bool
-    requires { (h.n ≤ 8) × (gathered_in h.phase ≤ 9) }
-    ensures { result ≡ sound_held h }
-{
-    let phase = h.phase;
-    let costs = h.costs;
-    let others = h.others;
-    (h.counts.builds == 0 || in_order(costs, h.n + 1))
-        && in_order(others, gathered_in(phase))
-        && all_costs(costs)
-        && all_costs(others)
-        && h.best <= MAX_COST
+    (s.counts.builds == 0 || in_order(&s.standing, s.setup.n + 1))
+        && in_order(&s.gathered, gathered_in(s.phase))
 }
 
 // None of the causes of refusal 12, for a search that has not ended.
-fn sound(h: Held) -> bool
-    ensures { result ≡ sound_by h }
+#[tactic(auto, unfolding(rules::specs::Calls::sound))]
+fn sound(s: &Search) -> bool
+    ensures { result ≡ sound s.now }
 {
-    let phase = h.phase;
-    let rule = h.rule;
-    1 <= h.n
-        && h.n <= 8
-        && h.readings < h.budget
-        && sound_counts(h.budget, h.counts)
-        && h.budget <= MAX_BUDGET
-        && sound_rule(rule)
-        && sound_phase(h.n, h.counts.builds, phase)
-        && sound_held(h)
+    1 <= s.setup.n
+        && s.setup.n <= 8
+        && s.readings < s.setup.budget
+        && sound_counts(s.setup.budget, &s.counts)
+        && s.setup.budget <= MAX_BUDGET
+        && sound_rule(s.setup.rule)
+        && sound_phase(s.setup.n, s.counts.builds, s.phase)
+        && ordered(s)
+        && all_costs(&s.standing.costs)
+        && all_costs(&s.gathered.costs)
+        && s.best.cost <= MAX_COST
 }
 
-// The refusals of ask: 12, 8. An ended search never meets 12.
-pub(super) fn ask_verdict(s: Search) -> Verdict
-    ensures { result ≡ ask_verdict s }
+// Whether refusal 12 lets a search through, as it does each that has ended.
+fn undamaged(s: &Search) -> bool
+    ensures { result ≡ undamaged s.now }
 {
-    let phase = s.phase;
-    if is_ended(phase) {
-        Verdict::Refused(Refusal::SearchEnded)
-    } else if sound(held_by(s)) {
-        Verdict::Accepted
-    } else {
-        Verdict::Refused(Refusal::Damaged)
-    }
+    is_ended(s.phase) || sound(s)
 }
 
-// The refusals of tell: 12, 8, 10, 9.
-pub(super) fn tell_verdict(s: Search, number: u64, cost: u64) -> Verdict
-    ensures { result ≡ tell_verdict s number cost }
+// The refusals of ask: 12, 8.
+#[tactic(auto, unfolding(rules::specs::Calls::ask_verdict))]
+pub(super) fn ask_verdict(s: &Search) -> Result<(), Refusal>
+    ensures { result ≡ ask_verdict s.now }
 {
-    let phase = s.phase;
-    if is_ended(phase) {
-        return Verdict::Refused(Refusal::SearchEnded);
+    if !undamaged(s) {
+        return Err(Refusal::Damaged);
     }
-    if !sound(held_by(s)) {
-        return Verdict::Refused(Refusal::Damaged);
+    if is_ended(s.phase) {
+        return Err(Refusal::SearchEnded);
     }
+    Ok(())
+}
+
+// The refusals of tell: those of ask, then 10, 9.
+pub(super) fn tell_verdict(s: &Search, number: u64, cost: u64) -> Result<(), Refusal>
+    ensures { result ≡ tell_verdict s.now number cost }
+{
+    ask_verdict(s)?;
     if number != s.readings + 1 {
-        return Verdict::Refused(Refusal::WrongNumber);
+        return Err(Refusal::WrongNumber);
     }
-    if cost <= MAX_COST {
-        Verdict::Accepted
-    } else {
-        Verdict::Refused(Refusal::CostTooHigh)
+    if MAX_COST < cost {
+        return Err(Refusal::CostTooHigh);
     }
+    Ok(())
 }
 
 // The refusals of best: 12, 11.
-pub(super) fn best_verdict(s: Search) -> Verdict
-    ensures { result ≡ best_verdict s }
+#[tactic(auto, unfolding(rules::specs::Calls::best_verdict))]
+pub(super) fn best_verdict(s: &Search) -> Result<(), Refusal>
+    ensures { result ≡ best_verdict s.now }
 {
-    let phase = s.phase;
-    if !is_ended(phase) {
-        if !sound(held_by(s)) {
-            return Verdict::Refused(Refusal::Damaged);
-        }
+    if !undamaged(s) {
+        return Err(Refusal::Damaged);
     }
     if s.readings == 0 {
-        Verdict::Refused(Refusal::NoReading)
-    } else {
-        Verdict::Accepted
+        return Err(Refusal::NoReading);
     }
+    Ok(())
 }

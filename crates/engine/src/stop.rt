@@ -1,15 +1,14 @@
 // The three stopping rules, spread, moved and size, tested where a build or an iteration ends.
-ghost use Rattle.std.specs.Prelude.{◌≡◌, true, map, ◌+◌, ◌-◌, ◌≤◌, take, drop};
-ghost use Rattle.rules.specs.Numbers.{max_spread};
-ghost use Rattle.rules.specs.Simplex.{place, unpack};
-ghost use Rattle.rules.specs.Stop.{total, square, spread_met, apart, norm, all_within, size_met};
-ghost use Rattle.rules.specs.Calls.{sound_rule};
+ghost use Rattle.std.specs.Prelude.{◌≡◌, map, ◌*◌, ◌≤◌, length, drop};
+ghost use Rattle.rules.specs.Numbers.{max_cost, max_spread};
+ghost use Rattle.rules.specs.Simplex.{place, unpack, cost_of};
+ghost use Rattle.rules.specs.Stop.{total, square, spread_met, apart, norm, scale, all_within, size_met};
 ghost use Rattle.engine.specs.Places.{Capped};
-ghost use Rattle.engine.specs.Finish.{met_by};
+ghost use Rattle.engine.specs.Ready.{Ready};
+ghost use Rattle.engine.specs.Finish.{met_by, stands};
 
-use super::float::whole;
 use super::place::point_at;
-use rules::{Rule, Simplex};
+use rules::{Rule, Search, Simplex};
 
 // A build, or an iteration by the row of the table that ends it.
 #[derive(Clone, Copy)]
@@ -28,121 +27,102 @@ struct Sums {
     squares: u64,
 }
 
-// from + (x - y)² over the first n axes, in axis order.
-pub(super) fn distance(x: &[f64; 8], y: &[f64; 8], from: f64, n: usize) -> f64
-    requires { n ≤ 8 }
-    ensures { result ≡ apart x.now y.now from n }
+// from + (x - y)² over the axes, in axis order. By place: over x.iter().zip(y) the invariant would have to follow both iterators too.
+#[tactic(auto, unfolding(rules::specs::Stop::apart))]
+pub(super) fn distance(x: &[f64], y: &[f64], from: f64) -> f64
+    requires { length x.now ≡ length y.now }
+    ensures { result ≡ apart x.now y.now from (length x.now) }
 {
     let mut sum = from;
-    let mut a = 0;
-    while a < n {
-        let d = x[a] - y[a];
-        sum = sum + d * d;
-        a += 1;
+    for (a, u) in x.iter().enumerate() {
+        let d = *u - y[a];
+        sum += d * d;
     }
     sum
 }
 
-// The sum of squared coordinates over the first n axes.
-fn norm(x: &[f64; 8], n: usize) -> f64
-    requires { n ≤ 8 }
-    ensures { result ≡ norm x.now n }
+// The sum of squared coordinates.
+#[tactic(auto, unfolding(rules::specs::Stop::norm))]
+fn norm(x: &[f64]) -> f64
+    ensures { result ≡ norm x.now (length x.now) }
 {
     let mut sum = 0.0;
-    let mut a = 0;
-    while a < n {
-        sum = sum + x[a] * x[a];
-        a += 1;
+    for x in x {
+        sum += *x * *x;
     }
     sum
 }
 
-// a - b, or 0 where b is above a.
-fn difference(a: u64, b: u64) -> u64
-    ensures { result ≡ a - b }
-{
-    if b <= a { a - b } else { 0 }
-}
-
-// The sums of the first m costs.
-fn sums_of(costs: [u64; 9], m: usize) -> Sums
-    requires { (m ≤ 9) × Capped costs }
-    ensures { (result.plain ≡ total (take m costs)) × (result.squares ≡ total (map square (take m costs))) }
+// The sums of the costs at the first m places. One loop, since costs.iter().sum() would bring std's sum beside the rules' total.
+#[tactic(auto, using(crate::proofs::Laws::Stopping::sums), unfolding(rules::specs::Stop::total))]
+fn sums_of(s: &Simplex, m: usize) -> Sums
+    requires { (m ≤ 9) × Capped s.now.costs }
+    ensures sums { let costs = map cost_of (unpack m s.now) in (result.plain ≡ total costs) × (result.squares ≡ total (map square costs)) }
+    ensures low { (result.plain ≤ 9 * max_cost) × (result.squares ≤ 9 * square max_cost) }
 {
     let mut plain = 0u64;
     let mut squares = 0u64;
-    let mut i = 0;
-    while i < m {
-        plain += costs[i];
-        squares += costs[i] * costs[i];
-        i += 1;
+    for cost in &s.costs[..m] {
+        plain += *cost;
+        squares += *cost * *cost;
     }
     Sums { plain, squares }
 }
 
 // The rule spread, in whole numbers.
-fn spread_met(s: Simplex, n: usize, e: u64) -> bool
-    requires { (n ≤ 8) × (e ≤ max_spread) × Capped s.costs }
-    ensures { result ≡ spread_met n e (unpack (n + 1) s) }
+#[tactic(auto, unfolding(rules::specs::Stop::spread_met))]
+fn spread_met(s: &Search, e: u64) -> bool
+    requires { (Ready s.now) × (e ≤ max_spread) }
+    ensures { result ≡ spread_met s.now.setup.n e (stands s.now) }
 {
-    let m = n + 1;
-    let k = n as u64;
-    let costs = s.costs;
-    let both = sums_of(costs, m);
-    difference((k + 1) * both.squares, both.plain * both.plain) < e * k * (k + 1)
+    let k = s.setup.n as u64;
+    let both = sums_of(&s.standing, s.setup.n + 1);
+    ((k + 1) * both.squares).saturating_sub(both.plain * both.plain) < e * k * (k + 1)
 }
 
 // Whether every place from 2 to n + 1 lies within the limit of place 1.
-fn all_within(s: Simplex, n: usize, limit: f64) -> bool
-    requires { n ≤ 8 }
-    ensures { result ≡ all_within n limit (place s 0).point (drop 1 (unpack (n + 1) s)) }
+fn all_within(s: &Search, limit: f64) -> bool
+    requires { Ready s.now }
+    ensures { result ≡ all_within s.now.setup.n limit (place s.now.standing 0).point (drop 1 (stands s.now)) }
 {
-    let points = s.points;
-    let first = point_at(&points, 0);
-    let mut i = 1;
-    while i <= n {
-        let other = point_at(&points, i);
-        if distance(&other, &first, 0.0, n) <= limit {
-            i += 1;
-        } else {
+    let n = s.setup.n;
+    let first = point_at(&s.standing, 0);
+    for i in 1..n + 1 {
+        let other = point_at(&s.standing, i);
+        if !(distance(&other[..n], &first[..n], 0.0) <= limit) {
             return false;
         }
     }
     true
 }
 
-// The rule size.
-fn size_met(s: Simplex, n: usize, e: f64) -> bool
-    requires { n ≤ 8 }
-    ensures { result ≡ size_met n e (unpack (n + 1) s) }
+// D of the rule size.
+fn scale(q: f64) -> f64
+    ensures { result ≡ scale q }
 {
-    let points = s.points;
-    let first = point_at(&points, 0);
-    let q = norm(&first, n);
-    if 1.0 < q {
-        all_within(s, n, e * e * q)
-    } else {
-        all_within(s, n, e * e * 1.0)
-    }
+    if 1.0 < q { q } else { 1.0 }
+}
+
+// The rule size.
+#[tactic(auto, using(crate::proofs::Laws::Stopping::norm_take, crate::proofs::Laws::Stopping::size_at))]
+fn size_met(s: &Search, e: f64) -> bool
+    requires { Ready s.now }
+    ensures { result ≡ size_met s.now.setup.n e (stands s.now) }
+{
+    let first = point_at(&s.standing, 0);
+    let q = norm(&first[..s.setup.n]);
+    all_within(s, e * e * scale(q))
 }
 
 // Whether the rule is met by the vertices that stand at the end of a piece, the points having moved so far.
-pub(super) fn met(rule: Rule, n: usize, piece: Piece, movement: f64, s: Simplex) -> bool
-    requires { (n ≤ 8) × (sound_rule rule ≡ true) × Capped s.costs }
-    ensures { result ≡ met_by rule n piece movement (unpack (n + 1) s) }
+#[tactic(auto, using(crate::proofs::Laws::Stopping::met_by_moved), unfolding(crate::specs::Finish::met_by))]
+pub(super) fn met(s: &Search, piece: Piece, movement: f64) -> bool
+    requires { Ready s.now }
+    ensures { result ≡ met_by s.now.setup.rule s.now.setup.n piece movement (stands s.now) }
 {
-    match rule {
-        Rule::Spread(e) => spread_met(s, n, e),
-        Rule::Moved(e) => {
-            let limit = e * whole(n);
-            match piece {
-                Piece::Build => false,
-                Piece::Reflection => movement < limit,
-                Piece::Expansion => movement < limit,
-                Piece::Contraction => movement < limit,
-                Piece::Shrink => movement < limit,
-            }
-        }
-        Rule::Size(e) => size_met(s, n, e),
+    match s.setup.rule {
+        Rule::Spread(e) => spread_met(s, e),
+        Rule::Moved(e) => !matches!(piece, Piece::Build) && movement < e * s.setup.n as f64,
+        Rule::Size(e) => size_met(s, e),
     }
 }

@@ -1,134 +1,121 @@
 // The search after an accepted reading: what was decided is done, then the budget is tested.
-ghost use Rattle.std.specs.Prelude.{◌≡◌, map, ◌+◌, ◌≤◌, ◌<◌, drop, eqb};
+ghost use Rattle.std.specs.Prelude.{◌≡◌, map, ◌≤◌, ◌<◌, drop};
 ghost use Rattle.rules.specs.Binary64.{0ᶠ};
 ghost use Rattle.rules.specs.Numbers.{max_cost, max_budget};
-ghost use Rattle.rules.specs.Simplex.{unpack, point_of};
+ghost use Rattle.rules.specs.Simplex.{point_of};
 ghost use Rattle.rules.specs.Stop.{movement};
-ghost use Rattle.rules.specs.Accept.{taken, first_open, built_on, shrinking, shrunk_points, shrunk_on, probed_on, advanced, spent_phase, budgeted, accept};
+ghost use Rattle.rules.specs.Accept.{taken, built_on, shrinking, shrunk_points, shrunk_on, probed_on, advanced, budgeted, accept};
 ghost use Rattle.engine.specs.Ready.{Fits, Ready};
-ghost use Rattle.engine.specs.Finish.{piece_of};
+ghost use Rattle.engine.specs.Finish.{piece_of, stands};
 ghost use Rattle.engine.specs.Decide.{Allowed, acted_on};
 
-use super::change::{finish, gathering, is_ended, noted, probed_once, waiting, with_phase};
+use super::change::{finish, is_ended, noted, waiting};
 use super::decide::{Decision, decided, kept};
-use super::insert::inserted;
-use super::place::{blank, place_at, point_at};
-use super::point::trial_in;
-use super::stop::{Piece, distance, met};
+use super::insert::insert;
+use super::place::{place_at, point_at};
+use super::point::trial;
+use super::stop::{Piece, distance};
 use rules::{Cause, Phase, Search, Vertex};
 
-// v replaces the vertex at place n + 1.
-fn taken(s: Search, piece: Piece, v: Vertex) -> Search
-    requires { (Ready s) × (v.cost ≤ max_cost) }
-    ensures { result ≡ taken (piece_of piece) v s }
+// v replaces the vertex at place n + 1. Its bound on v.cost stands in each step that takes a vertex: a type of its own with that bound
+// would be made of a rules::Vertex, and taken apart again, for each.
+#[tactic(auto, using(crate::proofs::Laws::Ending::ends), unfolding(rules::specs::Accept::taken, rules::specs::Stop::movement))]
+fn taken(s: &mut Search, piece: Piece, v: Vertex)
+    requires { (Ready s.old) × (v.cost ≤ max_cost) }
+    ensures { s.new ≡ taken (piece_of piece) v s.old }
 {
-    let setup = s.setup;
-    let n = setup.n;
-    let points = s.standing.points;
-    let old = point_at(&points, n);
-    let new = v.point;
-    let movement = distance(&old, &new, 0.0, n);
-    let next = inserted(s.standing, n, v);
-    let rule = setup.rule;
-    let met = met(rule, n, piece, movement, next);
-    finish(s, piece, met, next)
-}
-
-// What trial i of a build adds to the open readings: all but the very first count.
-fn first_open(builds: u64, i: usize) -> u64
-    ensures { result ≡ first_open builds i }
-{
-    if builds == 0 && i == 0 { 0 } else { 1 }
+    let n = s.setup.n;
+    let old = point_at(&s.standing, n);
+    insert(&mut s.standing, n, v);
+    finish(s, piece, distance(&old[..n], &v.point[..n], 0.0));
 }
 
 // Trial i of a build told: it joins the gathered vertices, and trial n ends the build.
-fn built_on(s: Search, i: usize, v: Vertex) -> Search
-    requires { (Ready s) × (i ≤ s.setup.n) × (v.cost ≤ max_cost) }
-    ensures { result ≡ built_on i v s }
+#[tactic(auto, using(crate::proofs::Laws::Ending::ends), unfolding(rules::specs::Accept::built_on, rules::specs::Stop::movement))]
+fn built_on(s: &mut Search, i: usize, v: Vertex)
+    requires { (Ready s.old) × (i ≤ s.old.setup.n) × (v.cost ≤ max_cost) }
+    ensures { s.new ≡ built_on i v s.old }
 {
-    let gathered = inserted(s.gathered, i, v);
+    insert(&mut s.gathered, i, v);
     if i == s.setup.n {
-        let setup = s.setup;
-        let rule = setup.rule;
-        let met = met(rule, setup.n, Piece::Build, 0.0, gathered);
-        finish(s, Piece::Build, met, gathered)
+        s.standing = s.gathered;
+        finish(s, Piece::Build, 0.0);
     } else {
-        let k = first_open(s.counts.builds, i);
-        gathering(s, Phase::Building(i + 1), gathered, k)
+        s.phase = Phase::Building(i + 1);
+        // the very first reading is not open
+        if s.counts.builds != 0 || i != 0 {
+            s.counts.unfinished += 1;
+        }
     }
 }
 
 // A shrink begins: x1 is kept.
-fn shrinking(s: Search) -> Search
-    requires { Ready s }
-    ensures { result ≡ shrinking s }
+#[tactic(auto, using(crate::proofs::Laws::Placing::insert_none))]
+fn shrinking(s: &mut Search)
+    requires { Ready s.old }
+    ensures { s.new ≡ shrinking s.old }
 {
-    let points = s.standing.points;
-    let costs = s.standing.costs;
-    let first = place_at(&points, &costs, 0);
-    let gathered = inserted(blank(), 0, first);
-    gathering(s, Phase::Shrinking(1), gathered, 1)
+    let first = place_at(&s.standing, 0);
+    insert(&mut s.gathered, 0, first);
+    waiting(s, Phase::Shrinking(1));
 }
 
 // How far the vertices at places 2 to n + 1 move by a shrink.
-fn shrink_movement(s: Search) -> f64
-    requires { (1 ≤ s.setup.n) × (s.setup.n ≤ 8) }
-    ensures { result ≡ movement s.setup.n (map point_of (drop 1 (unpack (s.setup.n + 1) s.standing))) (shrunk_points s) 0ᶠ }
+fn shrink_movement(s: &Search) -> f64
+    requires { Ready s.now }
+    ensures { result ≡ movement s.now.setup.n (map point_of (drop 1 (stands s.now))) (shrunk_points s.now) 0ᶠ }
 {
     let n = s.setup.n;
-    let points = s.standing.points;
     let mut sum = 0.0;
-    let mut k = 0;
-    while k < n {
-        k += 1;
-        let old = point_at(&points, k);
-        let new = trial_in(s, Phase::Shrinking(k));
-        sum = distance(&old, &new, sum, n);
+    for k in 0..n {
+        let old = point_at(&s.standing, k + 1);
+        let new = trial(s, Phase::Shrinking(k + 1));
+        sum = distance(&old[..n], &new[..n], sum);
     }
     sum
 }
 
 // The point for place j of a shrink told: it joins the gathered vertices, and that for place n + 1 ends
 // the shrink.
-fn shrunk_on(s: Search, j: usize, v: Vertex) -> Search
-    requires { (Ready s) × (j ≤ s.setup.n) × (v.cost ≤ max_cost) }
-    ensures { result ≡ shrunk_on j v s }
+#[tactic(auto, using(crate::proofs::Laws::Ending::ends), unfolding(rules::specs::Accept::shrunk_on))]
+fn shrunk_on(s: &mut Search, j: usize, v: Vertex)
+    requires { (Ready s.old) × (j ≤ s.old.setup.n) × (v.cost ≤ max_cost) }
+    ensures { s.new ≡ shrunk_on j v s.old }
 {
-    let gathered = inserted(s.gathered, j, v);
+    insert(&mut s.gathered, j, v);
     if j == s.setup.n {
-        let setup = s.setup;
-        let rule = setup.rule;
-        let met = met(rule, setup.n, Piece::Shrink, shrink_movement(s), gathered);
-        finish(s, Piece::Shrink, met, gathered)
+        let movement = shrink_movement(s);
+        s.standing = s.gathered;
+        finish(s, Piece::Shrink, movement);
     } else {
-        gathering(s, Phase::Shrinking(j + 1), gathered, 1)
+        waiting(s, Phase::Shrinking(j + 1));
     }
 }
 
 // Probe p told, b being the best cost before it: a lower one ends the round and a restart builds around
 // it; the last of a full round settles the search.
-fn probed_on(s: Search, p: usize, b: u64, v: Vertex) -> Search
-    requires { (Ready s) × (p < 1000) }
-    ensures { result ≡ probed_on p b v s }
+#[tactic(auto, using(crate::proofs::Laws::Placing::insert_none), unfolding(rules::specs::Accept::probed_on))]
+fn probed_on(s: &mut Search, p: usize, b: u64, v: Vertex)
+    requires { (Ready s.old) × (p < 1000) }
+    ensures { s.new ≡ probed_on p b v s.old }
 {
-    let mut t = s;
-    t.counts = probed_once(s.counts);
+    s.counts.probes += 1;
     if v.cost < b {
+        insert(&mut s.gathered, 0, v);
         let around = v.point;
-        t.gathered = inserted(blank(), 0, v);
-        t.center = around;
-        with_phase(t, Phase::Building(1))
+        s.center = around;
+        s.phase = Phase::Building(1);
     } else if p + 1 == 2 * s.setup.n {
-        with_phase(t, Phase::Ended(Cause::Settled))
+        s.phase = Phase::Ended(Cause::Settled);
     } else {
-        with_phase(t, Phase::Probing(p + 1))
+        s.phase = Phase::Probing(p + 1);
     }
 }
 
 // Does what was decided, with the vertex v that is kept, b being the best cost before the reading.
-fn acted(s: Search, decision: Decision, b: u64, v: Vertex) -> Search
-    requires { (Ready s) × (Allowed s.setup.n decision) × (v.cost ≤ max_cost) }
-    ensures { result ≡ acted_on decision b v s }
+fn acted(s: &mut Search, decision: Decision, b: u64, v: Vertex)
+    requires { (Ready s.old) × (Allowed s.old.setup.n decision) × (v.cost ≤ max_cost) }
+    ensures { s.new ≡ acted_on decision b v s.old }
 {
     match decision {
         Decision::Build(i) => built_on(s, i, v),
@@ -137,54 +124,39 @@ fn acted(s: Search, decision: Decision, b: u64, v: Vertex) -> Search
         Decision::Shrink => shrinking(s),
         Decision::Shrunk(j) => shrunk_on(s, j, v),
         Decision::Probe(p) => probed_on(s, p, b, v),
-        Decision::Nothing => s,
+        Decision::Nothing => {}
     }
 }
 
-// The reading v told in each phase, b being the best cost before it.
-fn advanced(s: Search, phase: Phase, b: u64, v: Vertex) -> Search
-    requires { (Ready s) × (Fits s.setup.n phase) × (v.cost ≤ max_cost) }
-    ensures { result ≡ advanced phase b v s }
+// The reading v told, b being the best cost before it.
+#[tactic(auto, using(crate::proofs::Laws::Deciding::acted_decided))]
+fn advanced(s: &mut Search, b: u64, v: Vertex)
+    requires { (Ready s.old) × (Fits s.old.setup.n s.old.phase) × (v.cost ≤ max_cost) }
+    ensures { s.new ≡ advanced s.old.phase b v s.old }
 {
-    let decision = decided(s, phase, v.cost);
-    let brought = kept(s, phase, v);
-    acted(s, decision, b, brought)
+    let decision = decided(s, s.phase, v.cost);
+    let brought = kept(s, s.phase, v);
+    acted(s, decision, b, brought);
 }
 
-// The phase with the budget tested: a spent one ends the search, unless the reading settled it.
-fn spent(readings: u64, budget: u64, phase: Phase) -> Phase
-    ensures { result ≡ spent_phase (eqb readings budget) phase }
+// The budget tested: a spent one ends the search, unless the reading settled it.
+fn budgeted(s: &mut Search)
+    ensures { s.new ≡ budgeted s.old }
 {
-    if readings == budget {
-        if is_ended(phase) {
-            phase
-        } else {
-            Phase::Ended(Cause::Budget)
-        }
-    } else {
-        phase
+    if s.readings == s.setup.budget && !is_ended(s.phase) {
+        s.phase = Phase::Ended(Cause::Budget);
     }
-}
-
-// The budget tested.
-fn budgeted(s: Search) -> Search
-    ensures { result ≡ budgeted s }
-{
-    let phase = s.phase;
-    let last = spent(s.readings, s.setup.budget, phase);
-    with_phase(s, last)
 }
 
 // The search after an accepted reading.
-pub(super) fn accept(s: Search, cost: u64) -> Search
-    requires { (Ready s) × (s.readings < max_budget) × (Fits s.setup.n s.phase) × (cost ≤ max_cost) }
-    ensures { result ≡ accept s cost }
+pub(super) fn accept(s: &mut Search, cost: u64)
+    requires { (Ready s.old) × (s.old.readings < max_budget) × (Fits s.old.setup.n s.old.phase) × (cost ≤ max_cost) }
+    ensures { s.new ≡ accept s.old cost }
 {
-    let phase = s.phase;
-    let best = s.best.cost;
-    let point = trial_in(s, phase);
+    let point = trial(s, s.phase);
     let v = Vertex { point, cost };
-    let after = noted(s, v);
-    let next = advanced(after, phase, best, v);
-    budgeted(next)
+    let best = s.best.cost;
+    noted(s, v);
+    advanced(s, best, v);
+    budgeted(s);
 }

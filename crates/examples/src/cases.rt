@@ -1,62 +1,63 @@
 // Further cases: a restart, the budget in each phase, settled, and dark frames.
 use super::openings::search;
-use super::play::{play_out, repeat};
-use super::show;
-use rules::{MAX_COST, Rule, RuleChoice};
+use super::play::{play_each, repeat};
+use rules::{MAX_COST, Rule};
 use std::io;
 
 // No rule named, spread 4: three equal costs meet it. The third probe is lower: a restart builds around it, its own
 // cost known.
 fn restarting(rt: &impl Print) -> io::Result<()> {
-    show::text(rt, b"a restart\n")?;
-    let s = search(2, 2.0, 8.0, RuleChoice::Unnamed, 100);
-    play_out(rt, s, &[10, 10, 10, 10, 10, 9])?;
-    play_out(rt, s, &[10, 10, 10, 10, 10, 9, 12])
+    println!(rt; "a restart")?;
+    let s = search(2, 2.0, 8.0, None, 100);
+    play_each(
+        rt,
+        s,
+        &[&[10, 10, 10, 10, 10, 9], &[10, 10, 10, 10, 10, 9, 12]],
+    )
 }
 
 // The budget is spent with a build, with r, with e, with an outside and with an inside point.
 fn spent_early(rt: &impl Print) -> io::Result<()> {
-    show::text(rt, b"the budget in each phase\n")?;
-    let three = search(2, 0.0, 8.0, RuleChoice::Unnamed, 3);
-    play_out(rt, three, &[30, 20, 10])?;
-    let four = search(2, 0.0, 8.0, RuleChoice::Unnamed, 4);
-    play_out(rt, four, &[30, 20, 10, 5])?;
-    play_out(rt, four, &[30, 20, 10, 20])?;
-    play_out(rt, four, &[30, 20, 10, 30])?;
-    let five = search(2, 0.0, 8.0, RuleChoice::Unnamed, 5);
-    play_out(rt, five, &[30, 20, 10, 5, 4])
+    println!(rt; "the budget in each phase")?;
+    let three = search(2, 0.0, 8.0, None, 3);
+    play_each(rt, three, &[&[30, 20, 10]])?;
+    let four = search(2, 0.0, 8.0, None, 4);
+    play_each(
+        rt,
+        four,
+        &[&[30, 20, 10, 5], &[30, 20, 10, 20], &[30, 20, 10, 30]],
+    )?;
+    let five = search(2, 0.0, 8.0, None, 5);
+    play_each(rt, five, &[&[30, 20, 10, 5, 4]])
 }
 
 // The budget is spent amid a shrink, a probe round, at a lower probe and amid a restart's build.
 fn spent_late(rt: &impl Print) -> io::Result<()> {
-    let six = search(2, 0.0, 8.0, RuleChoice::Unnamed, 6);
-    play_out(rt, six, &[30, 20, 10, 30, 30, 9])?;
-    let five = search(2, 2.0, 8.0, RuleChoice::Unnamed, 5);
-    play_out(rt, five, &[10, 10, 10, 10, 10])?;
-    play_out(rt, five, &[10, 10, 10, 10, 9])?;
-    let seven = search(2, 2.0, 8.0, RuleChoice::Unnamed, 7);
-    play_out(rt, seven, &[10, 10, 10, 10, 10, 9, 12])
+    let six = search(2, 0.0, 8.0, None, 6);
+    play_each(rt, six, &[&[30, 20, 10, 30, 30, 9]])?;
+    let five = search(2, 2.0, 8.0, None, 5);
+    play_each(rt, five, &[&[10, 10, 10, 10, 10], &[10, 10, 10, 10, 9]])?;
+    let seven = search(2, 2.0, 8.0, None, 7);
+    play_each(rt, seven, &[&[10, 10, 10, 10, 10, 9, 12]])
 }
 
 // The last probe of a full round settles the search, at the budget too.
 fn settled(rt: &impl Print) -> io::Result<()> {
-    show::text(rt, b"settled, and settled at the budget\n")?;
-    let s = search(1, 0.0, 8.0, RuleChoice::Unnamed, 100);
-    play_out(rt, s, &[5, 5, 5, 5])?;
-    let four = search(1, 0.0, 8.0, RuleChoice::Unnamed, 4);
-    play_out(rt, four, &[5, 5, 5, 5])?;
-    let three = search(1, 0.0, 8.0, RuleChoice::Unnamed, 3);
-    play_out(rt, three, &[5, 5, 5])
+    println!(rt; "settled, and settled at the budget")?;
+    for budget in [100, 4] {
+        let s = search(1, 0.0, 8.0, None, budget);
+        play_each(rt, s, &[&[5, 5, 5, 5]])?;
+    }
+    let three = search(1, 0.0, 8.0, None, 3);
+    play_each(rt, three, &[&[5, 5, 5]])
 }
 
 // Dark frames for ever: with spread the search settles, and with a small size it shrinks and never folds.
 fn dark(rt: &impl Print, n: usize) -> io::Result<()> {
-    show::text(rt, b"dark frames, axes")?;
-    show::number(rt, n as u64)?;
-    show::text(rt, b"\n")?;
-    let spread = search(n, 0.0, 8.0, RuleChoice::Unnamed, 60);
+    println!(rt; "dark frames, axes {n}")?;
+    let spread = search(n, 0.0, 8.0, None, 60);
     repeat(rt, spread, MAX_COST, 61)?;
-    let size = search(n, 0.0, 8.0, RuleChoice::Named(Rule::Size(0.0625)), 60);
+    let size = search(n, 0.0, 8.0, Some(Rule::Size(0.0625)), 60);
     repeat(rt, size, MAX_COST, 61)
 }
 
@@ -66,8 +67,8 @@ pub(super) fn all(rt: &impl Print) -> io::Result<()> {
     spent_early(rt)?;
     spent_late(rt)?;
     settled(rt)?;
-    dark(rt, 1)?;
-    dark(rt, 2)?;
-    dark(rt, 3)?;
-    dark(rt, 8)
+    for n in [1, 2, 3, 8] {
+        dark(rt, n)?;
+    }
+    Ok(())
 }

@@ -1,47 +1,43 @@
 // Costs told to a search one after the other, each trial asked for and shown before.
 use super::show;
-use rules::{Search, Verdict};
+use rules::{Refusal, Search};
 use std::io;
 
 // One reading: the trial is asked for and shown, and this cost is told for it.
-fn reading(rt: &impl Print, s: Search, cost: u64) -> io::Result<Search> {
-    let setup = s.setup;
-    let asked = engine::ask(s);
-    show::trial(rt, setup.n, asked, cost)?;
-    let answer = engine::tell(s, asked.number, cost);
-    Ok(answer.search)
+fn reading(rt: &impl Print, s: &mut Search, cost: u64) -> io::Result<Result<(), Refusal>> {
+    let asked = match engine::ask(s) {
+        Ok(asked) => asked,
+        Err(refusal) => return Ok(Err(refusal)),
+    };
+    show::trial(rt, s.setup.n, &asked, cost)?;
+    Ok(engine::tell(s, asked.number, cost))
 }
 
-// The search after these costs, told one after the other.
-pub(super) fn play(rt: &impl Print, s: Search, costs: &[u64]) -> io::Result<Search> {
-    let mut t = s;
-    let mut i = 0;
-    while i < costs.len() {
-        t = reading(rt, t, costs[i])?;
-        i += 1;
+// The search after these costs, told one after the other. A refusal is shown.
+pub(super) fn play(rt: &impl Print, mut s: Search, costs: &[u64]) -> io::Result<Search> {
+    for cost in costs {
+        if let Err(refusal) = reading(rt, &mut s, *cost)? {
+            show::refused(rt, refusal)?;
+        }
     }
-    Ok(t)
+    Ok(s)
 }
 
-// Tells these costs and shows where the search stands then.
-pub(super) fn play_out(rt: &impl Print, s: Search, costs: &[u64]) -> io::Result<()> {
-    let t = play(rt, s, costs)?;
-    show::state(rt, t)
+// For each of these lists of costs: tells them to the search and shows where it stands then.
+pub(super) fn play_each(rt: &impl Print, s: Search, lists: &[&[u64]]) -> io::Result<()> {
+    for costs in lists {
+        show::state(rt, &play(rt, s, costs)?)?;
+    }
+    Ok(())
 }
 
 // One cost told until the search refuses to ask, at most this many times; it shows the refusal and where the search stands then.
-pub(super) fn repeat(rt: &impl Print, s: Search, cost: u64, times: u64) -> io::Result<()> {
-    let mut t = s;
-    let mut k = 0;
-    while k < times {
-        let asked = engine::ask(t);
-        let verdict = asked.verdict;
-        if let Verdict::Refused(_) = verdict {
-            show::verdict(rt, verdict)?;
+pub(super) fn repeat(rt: &impl Print, mut s: Search, cost: u64, times: u64) -> io::Result<()> {
+    for _ in 0..times {
+        if let Err(refusal) = reading(rt, &mut s, cost)? {
+            show::refused(rt, refusal)?;
             break;
         }
-        t = reading(rt, t, cost)?;
-        k += 1;
     }
-    show::state(rt, t)
+    show::state(rt, &s)
 }

@@ -1,45 +1,52 @@
-// How numbers stand in texts, apart from any one text: a float by its bits, and the digit that a byte is.
+// How numbers stand in texts, apart from any one text: a float by its bits, and a whole number by its digits.
 
 #![tactic(auto)]
 
-ghost use Rattle.std.specs.Prelude.{◌≡◌};
+ghost use Rattle.std.specs.Prelude.{◌≡◌, ◌^◌, ◌≤◌, ◌<◌, length, IsTrue, SomeIff};
 ghost use Rattle.std.specs.Float.{binary64};
 ghost use Rattle.std.specs.Float.Ieee.{of_bits, to_bits};
-ghost use Rattle.numerals.specs.Digits.{digit_of};
+ghost use Rattle.numerals.specs.Digits.{digit_of, all_digits, value};
+
+use std::num::{f64_from_bits_with_nan, f64_to_bits_with_nan};
 
 // The float with these bits; any NaN's bits give the one NaN.
-#[tactic(auto, using(crate::proofs::Nans::nans))]
 pub fn float_of(bits: u64) -> f64
     ensures { result ≡ of_bits binary64 bits }
 {
-    let unsigned = bits & 0x7fff_ffff_ffff_ffff;
-    if unsigned > 0x7ff0_0000_0000_0000 {
-        0.0 / 0.0
-    } else {
-        f64::from_bits(bits)
-    }
+    f64_from_bits_with_nan(bits)
 }
 
 // The bits of a float; 7ff8000000000000 for a NaN.
 pub fn bits_of(x: f64) -> u64
     ensures { result ≡ to_bits binary64 x }
 {
-    if x != x {
-        0x7ff8_0000_0000_0000
-    } else {
-        f64::to_bits(x)
+    f64_to_bits_with_nan(x)
+}
+
+// The digit that a byte is, `0` to `9` or `a` to `f`.
+pub fn digit(x: u8) -> Option<u64>
+    ensures { SomeIff result (digit_of x < 16) (digit_of x) }
+{
+    match x {
+        b'0'..=b'9' => Some(u64::from(x - b'0')),
+        b'a'..=b'f' => Some(u64::from(x - b'a') + 10),
+        _ => None,
     }
 }
 
-// The digit that a byte is, `0` to `9` or `a` to `f`; 16 for any other byte.
-pub fn digit(x: u8) -> u64
-    ensures { result ≡ digit_of x }
+// The number that a field's digits in this base are, where every byte is one.
+#[tactic(auto, using(crate::proofs::Digits::digits), unfolding(crate::specs::Digits::all_digits, crate::specs::Digits::value))]
+pub fn from_digits(field: &[u8], base: u64) -> Option<u64>
+    requires { (1 < base) × (base ≤ 16) × (base ^ length field.now ≤ 2 ^ 64) }
+    ensures { SomeIff result (IsTrue (all_digits base field.now)) (value base 0 field.now) }
 {
-    if 48 <= x && x <= 57 {
-        return (x - 48) as u64;
+    let mut number = 0;
+    for x in field {
+        let d = digit(*x)?;
+        if d >= base {
+            return None;
+        }
+        number = number * base + d;
     }
-    if 97 <= x && x <= 102 {
-        return (x - 87) as u64;
-    }
-    16
+    Some(number)
 }

@@ -1,50 +1,103 @@
 // The lines of a transcript.
-ghost use Rattle.std.specs.Prelude.{◌+◌, ◌≤◌, length};
+use super::calls::{Answer, axis_of, number_of};
+use super::series::Total;
+use numerals::bits_of;
+use rules::{Asked, Cause, Phase, Search, Side, Vertex};
+use std::fmt::{Display, Formatter};
+use std::{fmt, io};
 
-use crate::Answer;
-use std::io::Result;
+// Words of a line, each after a space.
+#[derive(Clone, Copy)]
+struct Words<'a>(&'a [u64]);
 
-// Puts a space and a word here.
-fn put_word(out: &mut [u8], at: usize, value: u64)
-    requires { at + 17 ≤ length out.old }
-{
-    let mut digits = [0u8; 16];
-    io::hex(value, 16, &mut digits);
-    out[at] = b' ';
-    let mut i = 0;
-    while i < 16 {
-        out[at + 1 + i] = digits[i];
-        i += 1;
+impl Display for Words<'_> {
+    fn fmt<W: fmt::Write>(&self, f: &mut Formatter<W>) -> fmt::Result {
+        for word in self.0 {
+            write!(f, " {word:016x}")?;
+        }
+        Ok(())
     }
 }
 
-// At most a hundred.
-fn a_hundred_at_most(count: usize) -> usize
-    ensures { result ≤ 100 }
-{
-    if count < 100 { count } else { 100 }
-}
+// A point and its cost as words.
+#[derive(Clone, Copy)]
+struct Reading<'a>(&'a [f64; 8], u64);
 
-// Prints a line: this letter and the words.
-pub(super) fn line(rt: &impl Print, letter: u8, answer: Answer) -> Result<()> {
-    let words = answer.words;
-    let count = a_hundred_at_most(answer.count);
-    let mut out = [b'\n'; 1702];
-    out[0] = letter;
-    let mut at = 1;
-    let mut i = 0;
-    while i < count {
-        put_word(&mut out, at, words[i]);
-        at += 17;
-        i += 1;
+impl Display for Reading<'_> {
+    fn fmt<W: fmt::Write>(&self, f: &mut Formatter<W>) -> fmt::Result {
+        let Reading(point, cost) = *self;
+        write!(f, "{} {cost:016x}", Words(&point.map(bits_of)))
     }
-    rt.write_all(&out[..at + 1])
 }
 
-// Prints that the line of this number is malformed.
-pub(super) fn malformed(rt: &impl Print, number: u64) -> Result<()> {
-    let mut words = [0u64; 100];
-    words[0] = number;
-    let answer = Answer { words, count: 1 };
-    line(rt, b'x', answer)
+// The phase's number, and its detail: the vertices or probes that an unfinished piece has so far, or the cost of r.
+fn numbered(phase: Phase) -> (u64, u64) {
+    match phase {
+        Phase::Building(built) => (0, built as u64),
+        Phase::Reflecting => (1, 0),
+        Phase::Expanding(cost) => (2, cost),
+        Phase::Contracting(Side::Outside, cost) => (3, cost),
+        Phase::Contracting(Side::Inside, cost) => (4, cost),
+        Phase::Shrinking(shrunk) => (5, shrunk as u64),
+        Phase::Probing(told) => (6, told as u64),
+        Phase::Ended(Cause::Settled) => (7, 0),
+        Phase::Ended(Cause::Budget) => (8, 0),
+    }
+}
+
+impl Display for Answer {
+    fn fmt<W: fmt::Write>(&self, f: &mut Formatter<W>) -> fmt::Result {
+        match self {
+            Answer::Opened(verdict) => {
+                write!(f, "o{}", Words(&[number_of(verdict), axis_of(verdict)]))
+            }
+            Answer::Asked(asked) => {
+                let Asked { number, point } = asked.unwrap_or_default();
+                let words = Words(&[number_of(asked), number]);
+                write!(f, "a{words}{}", Words(&point.map(bits_of)))
+            }
+            Answer::Told(verdict) => write!(f, "t{}", Words(&[number_of(verdict)])),
+            Answer::Best(best) => {
+                let Vertex { point, cost } = best.unwrap_or_default();
+                let words = Words(&[number_of(best)]);
+                write!(f, "b{words}{}", Reading(&point, cost))
+            }
+            Answer::State(search) => state(f, search),
+            Answer::Series(total) => {
+                let Total { searches, sum } = total.unwrap_or_default();
+                write!(f, "r{}", Words(&[number_of(total), searches, sum]))
+            }
+        }
+    }
+}
+
+// The state line: phase, counts, best reading and standing simplex.
+fn state<W: fmt::Write>(f: &mut Formatter<W>, search: &Search) -> fmt::Result {
+    let (phase, detail) = numbered(search.phase);
+    let counts = &search.counts;
+    let words = [
+        phase,
+        detail,
+        search.readings,
+        counts.builds,
+        counts.reflections,
+        counts.expansions,
+        counts.contractions,
+        counts.shrinks,
+        counts.probes,
+        counts.unfinished,
+    ];
+    let best = Reading(&search.best.point, search.best.cost);
+    write!(f, "s{}{best}", Words(&words))?;
+    let simplex = &search.standing;
+    let (points, _) = simplex.points.as_chunks();
+    for (point, cost) in points.iter().zip(&simplex.costs) {
+        write!(f, "{}", Reading(point, *cost))?;
+    }
+    Ok(())
+}
+
+// The line that says that the script's line of this number is malformed.
+pub(super) fn malformed(out: &mut impl io::Write, number: u64) -> io::Result<()> {
+    writeln!(out, "x{}", Words(&[number]))
 }

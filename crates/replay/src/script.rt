@@ -1,105 +1,93 @@
 // The lines of a script.
-ghost use Rattle.std.specs.Prelude.{◌+◌, ◌*◌, ◌<◌, ◌≤◌, length};
+use arrayvec::ArrayVec;
+use numerals::{float_of, from_digits};
+use rules::{Axis, Coefficients, Opening, Rule};
 
-use crate::{Line, Word};
-use numerals::digit;
+// What a line says.
+#[derive(Clone, Copy)]
+pub(super) enum Command {
+    Open(Opening),
+    Ask,
+    Tell { number: u64, cost: u64 },
+    Best,
+    State,
+    Series { n: usize, readings: u64 },
+}
 
-// The word that stands here, after a space.
-fn word_at(input: &[u8], from: usize) -> Word
-    requires { from + 17 ≤ length input.now }
-{
-    let malformed = Word {
-        well: false,
-        value: 0,
+// The most readings of a series.
+const MOST_READINGS: u64 = 16777216;
+
+// The word that a field says: a space and sixteen digits.
+fn word(field: &[u8]) -> Option<u64> {
+    match field {
+        [b' ', digits @ ..] if digits.len() == 16 => from_digits(digits, 16),
+        _ => None,
+    }
+}
+
+// The words that the fields of a line say, of which no line has more than forty.
+fn words(fields: &[u8]) -> Option<ArrayVec<u64, 40>> {
+    let mut words = ArrayVec::new();
+    for field in fields.chunks(17) {
+        words.try_push(word(field)?).ok()?;
+    }
+    Some(words)
+}
+
+// The axis record that four words say.
+fn axis_of([lo, hi, start, step]: [u64; 4]) -> Axis {
+    Axis {
+        lo: float_of(lo),
+        hi: float_of(hi),
+        start: float_of(start),
+        step: float_of(step),
+    }
+}
+
+// The opening that forty words say, if they name a rule or none.
+fn opening_of(words: &[u64]) -> Option<Opening> {
+    let (first, records) = words.split_first_chunk::<8>()?;
+    let [n, kind, threshold, alpha, chi, beta, sigma, budget] = *first;
+    let (records, []) = records.as_chunks() else {
+        return None;
     };
-    if input[from] != b' ' {
-        return malformed;
-    }
-    let mut value = 0;
-    let mut i = 1;
-    while i < 17 {
-        let d = digit(input[from + i]);
-        if d > 15 {
-            return malformed;
-        }
-        value = (value << 4) | d;
-        i += 1;
-    }
-    Word { well: true, value }
+    let axes: [Axis; 8] = (*records.as_array()?).map(axis_of);
+    let rule = match kind {
+        0 => None,
+        1 => Some(Rule::Spread(threshold)),
+        2 => Some(Rule::Moved(float_of(threshold))),
+        3 => Some(Rule::Size(float_of(threshold))),
+        _ => return None,
+    };
+    let coefficients = Coefficients {
+        alpha: float_of(alpha),
+        chi: float_of(chi),
+        beta: float_of(beta),
+        sigma: float_of(sigma),
+    };
+    Some(Opening {
+        n: n as usize,
+        axes,
+        rule,
+        coefficients,
+        budget,
+    })
 }
 
-// How many words come with a letter; 41 for a letter that begins no line.
-fn count_of(letter: u8) -> usize {
-    match letter {
-        b'o' => 40,
-        b't' => 2,
-        b'r' => 2,
-        b'a' => 0,
-        b'b' => 0,
-        b's' => 0,
-        _ => 41,
+// The command that a line says, if its form is right.
+pub(super) fn command_of(line: &[u8]) -> Option<Command> {
+    let (letter, fields) = line.strip_suffix(b"\n")?.split_first()?;
+    let words = words(fields)?;
+    match (*letter, words.as_slice()) {
+        (b'o', words) => opening_of(words).map(Command::Open),
+        (b'a', &[]) => Some(Command::Ask),
+        (b't', &[number, cost]) => Some(Command::Tell { number, cost }),
+        (b'b', &[]) => Some(Command::Best),
+        (b's', &[]) => Some(Command::State),
+        (b'r', &[n, readings]) if readings <= MOST_READINGS => Some(Command::Series {
+            n: n as usize,
+            readings,
+        }),
+        _ => None,
     }
-}
-
-// The greatest second word that a letter takes: the rule of an opening, the readings of a series.
-fn second_at_most(letter: u8) -> u64 {
-    match letter {
-        b'o' => 3,
-        b'r' => 16777216,
-        _ => 0xffff_ffff_ffff_ffff,
-    }
-}
-
-// A line whose form is not right.
-fn malformed(next: usize) -> Line
-    ensures { next ≤ result.next }
-{
-    Line {
-        well: false,
-        letter: 0,
-        words: [0u64; 40],
-        next,
-    }
-}
-
-// The line with this letter, whose words begin here, after it.
-fn line_of(input: &[u8], letter: u8, from: usize, count: usize) -> Line
-    requires count_bound { count ≤ 40 }
-    requires count_in_bounds { from + 17 * count + 1 ≤ length input.now }
-    ensures { from ≤ result.next }
-{
-    let mut words = [0u64; 40];
-    let mut at = from;
-    let mut i = 0;
-    while i < count {
-        let word = word_at(input, at);
-        if !word.well {
-            return malformed(from);
-        }
-        words[i] = word.value;
-        at += 17;
-        i += 1;
-    }
-    Line {
-        well: input[at] == b'\n' && words[1] <= second_at_most(letter),
-        letter,
-        words,
-        next: at + 1,
-    }
-}
-
-// The line that begins here.
-pub(super) fn line_at(input: &[u8], from: usize) -> Line
-    requires { from < length input.now }
-    ensures { from < result.next }
-{
-    let letter = input[from];
-    let count = count_of(letter);
-    if count > 40 {
-        return malformed(from + 1);
-    }
-    if input.len() - from < 17 * count + 2 {
-        return malformed(from + 1);
-    }
-    line_of(input, letter, from + 1, count)
 }

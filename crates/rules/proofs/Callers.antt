@@ -1,4 +1,5 @@
 -- What each caller relies on, of every search that an opening and calls have made. Assumes nothing.
+use Rattle.std.specs.Prelude.{Option, Result, Ok, Err}
 use mathlib.Core.Path.{◌≡◌, refl, sym, ap, ◌∙◌, subst}
 use mathlib.Core.Bool.{Bool, true, false, true≢false, cond, not, and-eq-true_iff}
 use mathlib.Core.List.{List, [], ◌∷◌, ◌++◌}
@@ -11,73 +12,66 @@ use lib.Ieee.{Float, nan}
 use borrow.Author.Tests.{eqb-true, ne_eqb, eq-eqb, lt-leb}
 use Rattle.rules.specs.Binary64.{◌≤ᶠ◌}
 use Rattle.rules.specs.Numbers.{max_cost}
-use Rattle.rules.specs.Trial.{no_axis}
+use Rattle.rules.specs.Trial.{no_axis, trial}
 use Rattle.rules.specs.Accept.{run}
-use Rattle.rules.specs.Refusals.{check, number_of}
+use Rattle.rules.specs.Refusals.{Verdict, check, answered}
 use Rattle.rules.specs.Opening.{opening, fresh}
 use Rattle.rules.specs.Calls.{is_ended, undamaged, ask_verdict, tell_verdict, best_verdict, told_by, asking, telling, showing}
-use Rattle.rules.specs.History.{Call, tell, best, after1, after, joins, history1, history_from, history, reading}
+use Rattle.rules.specs.History.{Call, tell, after1, after, joins, history1, history_from, history, reading}
 use Rattle.rules.specs.Claims.{Within, Claims}
+use Rattle.rules.specs.declared.Rule.{Rule}
 use Rattle.rules.specs.declared.Axis.{Axis}
 use Rattle.rules.specs.declared.Coefficients.{Coefficients}
-use Rattle.rules.specs.declared.RuleChoice.{RuleChoice}
 use Rattle.rules.specs.declared.Setup.{Setup}
 use Rattle.rules.specs.declared.Search.{Search}
-use Rattle.rules.specs.declared.Verdict.{Verdict}
-use Rattle.rules.specs.declared.Verdict.TheVariants.{Accepted, Refused}
+use Rattle.rules.specs.declared.Asked.{Asked}
+use Rattle.rules.specs.declared.Vertex.{Vertex}
 use Rattle.rules.specs.declared.Refusal.{Refusal}
 use Rattle.rules.specs.declared.Refusal.TheVariants.{SearchEnded, CostTooHigh, WrongNumber, NoReading, Damaged}
 use Rattle.rules.proofs.Laws.Openings.{opened_verdict, opened_fresh, opened_axis}
 use Rattle.rules.proofs.Laws.Histories.{Joined}
 use Rattle.rules.proofs.Runs.Begun.{Begun, whole_run}
-use Rattle.rules.proofs.Runs.Calling.{asked_verdict, told_verdict, shown_verdict, run_undamaged, all_follow}
+use Rattle.rules.proofs.Runs.Calling.{told_verdict, run_undamaged, all_follow}
 use Rattle.rules.proofs.Claim.{opened_begun, claim}
 
 -- ---- the calls' verdicts on a search that is not damaged
 
--- the number of a refusal, 0 where there is none
-abbrev number_in : Verdict → ℕ
-number_in Accepted = 0
-number_in (Refused r) = number_of r
+-- an answer that is not refusal 12
+abbrev pub Not12 : {A : Type 0} → Result A Refusal → Type 0
+Not12 r = r ≡ Err Damaged → ⊥
 
--- a verdict that is not refusal 12
-abbrev pub Not12 : Verdict → Type 0
-Not12 v = v ≡ Refused Damaged → ⊥
-
-accepted_not_12 : Not12 Accepted
-accepted_not_12 e = let z : ◌≡◌ {A = ℕ} 0 1 = cc in omega arith
-
--- a refusal has one number
-not_12 : (r : Refusal) → (eqb (number_of r) 12 ≡ false) → Not12 (Refused r)
-not_12 r d e = true≢false (sym (ap (λ (v : Verdict). eqb (number_in v) 12) e) ∙ d)
+-- a call whose checks do not give refusal 12 does not answer it
+answered_not_12 : {A : Type 0} (v : Verdict) (x : A) → Not12 v → Not12 (answered v x)
+answered_not_12 (Ok _) x g e = let none : ⊥ = cc in none
+answered_not_12 (Err r) x g e = let same : r ≡ Damaged = cc in g (ap (λ (q : Refusal). Err q) same)
 
 -- what holds where a check passes and where it refuses holds of it
-pub check_elim : (P : Verdict → Type 0) (b : Bool) {r : Refusal} {v : Verdict} → (b ≡ true → P v) → (b ≡ false → P (Refused r)) → P (check b r v)
+pub check_elim : (P : Verdict → Type 0) (b : Bool) {r : Refusal} {v : Verdict} → (b ≡ true → P v) → (b ≡ false → P (Err r)) → P (check b r v)
 check_elim P true f g = f refl
 check_elim P false f g = g refl
 
 module _ (s : Search) (h : undamaged s ≡ true) where
   -- a number that is not the next is refused as 10, or as 8 where the search has ended
-  tell_wrong : (k c : ℕ) → (k ≡ s.readings + 1 → ⊥) → telling s k c ≡ record { verdict = Refused (cond (is_ended s.phase) SearchEnded WrongNumber); search = s }
+  tell_wrong : (k c : ℕ) → (k ≡ s.readings + 1 → ⊥) → telling s k c ≡ record { verdict = Err (cond (is_ended s.phase) SearchEnded WrongNumber); search = s }
   unfolding telling tell_verdict
   tell_wrong k c d = rw (h, ne_eqb k (s.readings + 1) d) (go (is_ended s.phase))
     where
-      go : (b : Bool) → told_by (check (not b) SearchEnded (Refused WrongNumber)) s c ≡ record { verdict = Refused (cond b SearchEnded WrongNumber); search = s }
+      go : (b : Bool) → told_by (check (not b) SearchEnded (Err WrongNumber)) s c ≡ record { verdict = Err (cond b SearchEnded WrongNumber); search = s }
       go true = refl
       go false = refl
 
   -- the next number with a cost above the largest is refused as 9
-  tell_high : (k c : ℕ) → is_ended s.phase ≡ false → k ≡ s.readings + 1 → max_cost < c → telling s k c ≡ record { verdict = Refused CostTooHigh; search = s }
+  tell_high : (k c : ℕ) → is_ended s.phase ≡ false → k ≡ s.readings + 1 → max_cost < c → telling s k c ≡ record { verdict = Err CostTooHigh; search = s }
   unfolding telling tell_verdict
   tell_high k c live e high = rw (h, live, eq-eqb k (s.readings + 1) e, lt-leb c max_cost high)
 
   -- ask is refused as 8 once the search has ended
-  ask_ended : is_ended s.phase ≡ true → ((asking s).verdict ≡ Refused SearchEnded) × ((asking s).search ≡ s)
+  ask_ended : is_ended s.phase ≡ true → asking s ≡ Err SearchEnded
   unfolding asking ask_verdict
-  ask_ended e = rw (h, e) (refl, refl)
+  ask_ended e = rw (h, e)
 
   -- best is refused as 11 before the first reading
-  best_none : s.readings ≡ 0 → (showing s).verdict ≡ Refused NoReading
+  best_none : s.readings ≡ 0 → showing s ≡ Err NoReading
   unfolding showing best_verdict
   best_none e = rw (h, eq-eqb s.readings 0 e)
 
@@ -85,13 +79,13 @@ module _ (s : Search) (h : undamaged s ≡ true) where
   first_passes : (v : Verdict) → Not12 v → Not12 (check (undamaged s) Damaged v)
   first_passes v g = check_elim Not12 (undamaged s) (λ e. g) (λ e. absurd (true≢false (sym h ∙ e)))
 
-  ask_not_12 : Not12 (asking s).verdict
+  ask_not_12 : Not12 (asking s)
   unfolding asking ask_verdict
-  ask_not_12 = rw (asked_verdict (ask_verdict s) s) (first_passes _ (check_elim Not12 (not (is_ended s.phase)) (λ e. accepted_not_12) (λ e. not_12 _ refl)))
+  ask_not_12 = answered_not_12 (ask_verdict s) _ (first_passes _ (check_elim Not12 (not (is_ended s.phase)) (λ e f. let none : ⊥ = cc in none) (λ e f. let none : ⊥ = cc in none)))
 
-  best_not_12 : Not12 (showing s).verdict
+  best_not_12 : Not12 (showing s)
   unfolding showing best_verdict
-  best_not_12 = rw (shown_verdict (best_verdict s) s) (first_passes _ (check_elim Not12 (not (eqb s.readings 0)) (λ e. accepted_not_12) (λ e. not_12 _ refl)))
+  best_not_12 = answered_not_12 (best_verdict s) _ (first_passes _ (check_elim Not12 (not (eqb s.readings 0)) (λ e f. let none : ⊥ = cc in none) (λ e f. let none : ⊥ = cc in none)))
 
   tell_not_12 : (k c : ℕ) → Not12 (telling s k c).verdict
   unfolding telling tell_verdict
@@ -99,8 +93,8 @@ module _ (s : Search) (h : undamaged s ≡ true) where
       rw (told_verdict (tell_verdict s k c) s c)
       (first_passes _
       (check_elim Not12 (not (is_ended s.phase))
-      (λ e. check_elim Not12 (eqb k (s.readings + 1)) (λ d. check_elim Not12 (leb c max_cost) (λ b. accepted_not_12) (λ b. not_12 _ refl)) (λ d. not_12 _ refl))
-      (λ e. not_12 _ refl)))
+      (λ e. check_elim Not12 (eqb k (s.readings + 1)) (λ d. check_elim Not12 (leb c max_cost) (λ b f. let none : ⊥ = cc in none) (λ b f. let none : ⊥ = cc in none)) (λ d f. let none : ⊥ = cc in none))
+      (λ e f. let none : ⊥ = cc in none)))
 
 -- a tell that joins has the next number
 joins_number : (o : Search) (h : List ℕ) (k c : ℕ) → joins o h k c ≡ true → eqb k (length h + 1) ≡ true
@@ -122,7 +116,7 @@ history_snoc o h (d ∷ cs) c = history_snoc o (history1 o h d) cs c
 
 -- ---- every opening that is not refused, and every list of calls
 
-module _ (n : ℕ) (axes : List Axis) (rule : RuleChoice) (coefficients : Coefficients) (budget : ℕ) (accepted : (opening n axes rule coefficients budget).verdict ≡ Accepted) where
+module _ (n : ℕ) (axes : List Axis) (rule : Option Rule) (coefficients : Coefficients) (budget : ℕ) (accepted : (opening n axes rule coefficients budget).verdict ≡ Ok tt) where
   -- the search as opened
   abbrev pub opened_search : Search
   opened_search = (opening n axes rule coefficients budget).search
@@ -152,11 +146,11 @@ module _ (n : ℕ) (axes : List Axis) (rule : RuleChoice) (coefficients : Coeffi
   pub sound_always : (cs : List Call) → undamaged (reached cs) ≡ true
   sound_always cs = rw (followed cs).1 (run_undamaged opened_search begun (accepted_costs cs) (followed cs).0)
 
-  pub never_12 : (cs : List Call) → Not12 (asking (reached cs)).verdict × ((k c : ℕ) → Not12 (telling (reached cs) k c).verdict) × Not12 (showing (reached cs)).verdict
+  pub never_12 : (cs : List Call) → Not12 (asking (reached cs)) × ((k c : ℕ) → Not12 (telling (reached cs) k c).verdict) × Not12 (showing (reached cs))
   never_12 cs = let h = sound_always cs in (ask_not_12 (reached cs) h, tell_not_12 (reached cs) h, best_not_12 (reached cs) h)
 
   -- tell accepts exactly when the history says so
-  pub tell_exactly : (cs : List Call) (k c : ℕ) → ((telling (reached cs) k c).verdict ≡ Accepted) ↔ (joins opened_search (accepted_costs cs) k c ≡ true)
+  pub tell_exactly : (cs : List Call) (k c : ℕ) → ((telling (reached cs) k c).verdict ≡ Ok tt) ↔ (joins opened_search (accepted_costs cs) k c ≡ true)
   tell_exactly cs = (claims cs).accepts
 
   -- ---- the controller: every trial lies within the limits that the opening gave
@@ -171,26 +165,29 @@ module _ (n : ℕ) (axes : List Axis) (rule : RuleChoice) (coefficients : Coeffi
       let e = opened_axis n axes rule coefficients budget (opened_verdict n axes rule coefficients budget accepted) a l in
       subst (λ (y : Axis). ((y.lo ≤ᶠ get_or x a nan) ≡ true) × ((get_or x a nan ≤ᶠ y.hi) ≡ true)) e (given a l)
 
-  pub controller_asked : (cs : List Call) → is_ended (reached cs).phase ≡ false → ((asking (reached cs)).verdict ≡ Accepted) × Permitted (asking (reached cs)).point
-  controller_asked cs e = (((claims cs).asks e).0, permitted (asking (reached cs)).point ((claims cs).within_asked e))
+  pub controller_asked : (cs : List Call) → is_ended (reached cs).phase ≡ false → (a : Asked) × (asking (reached cs) ≡ Ok a) × Permitted a.point
+  controller_asked cs e =
+      let a : Asked = record { number = length (accepted_costs cs) + 1; point = trial (run opened_search (accepted_costs cs)) } in
+      let answers : asking (reached cs) ≡ Ok a = (claims cs).asks e in
+      (a, answers, permitted a.point ((claims cs).within_asked a answers))
 
   pub controller_told : (cs : List Call) (k : ℕ) → k < length (accepted_costs cs) → Permitted (reading opened_search (accepted_costs cs) k).point
   controller_told cs k l = permitted (reading opened_search (accepted_costs cs) k).point ((claims cs).within_told k l)
 
   -- an ended search proposes nothing more
-  pub controller_ended : (cs : List Call) → is_ended (reached cs).phase ≡ true → ((asking (reached cs)).verdict ≡ Refused SearchEnded) × ((asking (reached cs)).search ≡ reached cs)
+  pub controller_ended : (cs : List Call) → is_ended (reached cs).phase ≡ true → asking (reached cs) ≡ Err SearchEnded
   controller_ended cs e = ask_ended (reached cs) (sound_always cs) e
 
   -- ---- the camera: a number told twice, late or early is refused, and the search stays
 
   -- the answer to a tell whose number is not the next
   abbrev pub Unmoved : Search → ℕ → ℕ → Type 0
-  Unmoved s k c = telling s k c ≡ record { verdict = Refused (cond (is_ended s.phase) SearchEnded WrongNumber); search = s }
+  Unmoved s k c = telling s k c ≡ record { verdict = Err (cond (is_ended s.phase) SearchEnded WrongNumber); search = s }
 
   pub camera_wrong : (cs : List Call) (k c : ℕ) → (k ≡ length (accepted_costs cs) + 1 → ⊥) → Unmoved (reached cs) k c
   camera_wrong cs k c d = tell_wrong (reached cs) (sound_always cs) k c (λ e. d (e ∙ ap (λ (m : ℕ). m + 1) (claims cs).readings))
 
-  pub camera_twice : (cs : List Call) (k c d : ℕ) → (telling (reached cs) k c).verdict ≡ Accepted → Unmoved (telling (reached cs) k c).search k d
+  pub camera_twice : (cs : List Call) (k c d : ℕ) → (telling (reached cs) k c).verdict ≡ Ok tt → Unmoved (telling (reached cs) k c).search k d
   camera_twice cs k c d e =
       let more = cs ++ tell k c ∷ [] in
       let h = accepted_costs cs in
@@ -202,18 +199,18 @@ module _ (n : ℕ) (axes : List Axis) (rule : RuleChoice) (coefficients : Coeffi
 
   -- where the search has not ended, the next number with a cost above the largest is refused as 9, and the search stays
   pub camera_high : (cs : List Call) (k c : ℕ) → is_ended (reached cs).phase ≡ false → k ≡ length (accepted_costs cs) + 1 → max_cost < c
-      → telling (reached cs) k c ≡ record { verdict = Refused CostTooHigh; search = reached cs }
+      → telling (reached cs) k c ≡ record { verdict = Err CostTooHigh; search = reached cs }
   camera_high cs k c live e high = tell_high (reached cs) (sound_always cs) k c live (e ∙ ap (λ (m : ℕ). m + 1) (sym (claims cs).readings)) high
 
   -- ---- the panel: best answers a reading that no accepted reading beats
 
   pub panel_best : (cs : List Call) → 0 < length (accepted_costs cs)
-      → ((showing (reached cs)).verdict ≡ Accepted)
-      × ((k : ℕ) × (k < length (accepted_costs cs)) × ((showing (reached cs)).reading ≡ reading opened_search (accepted_costs cs) k))
-      × ((j : ℕ) → j < length (accepted_costs cs) → (showing (reached cs)).reading.cost ≤ (reading opened_search (accepted_costs cs) j).cost)
-  panel_best cs l = let b = (claims cs).best l in (b.2, (b.0, b.1.told, b.3), λ j m. rw b.3 (b.1.least j m))
+      → (v : Vertex) × (showing (reached cs) ≡ Ok v)
+      × ((k : ℕ) × (k < length (accepted_costs cs)) × (v ≡ reading opened_search (accepted_costs cs) k))
+      × ((j : ℕ) → j < length (accepted_costs cs) → v.cost ≤ (reading opened_search (accepted_costs cs) j).cost)
+  panel_best cs l = let b = (claims cs).best l in (reading opened_search (accepted_costs cs) b.0, b.2, (b.0, b.1.told, refl), λ j m. b.1.least j m)
 
-  pub panel_none : (cs : List Call) → length (accepted_costs cs) ≡ 0 → (showing (reached cs)).verdict ≡ Refused NoReading
+  pub panel_none : (cs : List Call) → length (accepted_costs cs) ≡ 0 → showing (reached cs) ≡ Err NoReading
   panel_none cs e = best_none (reached cs) (sound_always cs) ((claims cs).readings ∙ e)
 
   -- ---- the schedule: the readings equation, from the first reading on

@@ -1,30 +1,30 @@
 -- Demand 3: the claim about every list of calls on a newly opened search. Assumes nothing.
+use Rattle.std.specs.Prelude.{Option, Ok}
 use mathlib.Core.Path.{◌≡◌, refl, ap}
-use mathlib.Core.Bool.{false}
 use mathlib.Core.List.{List, [], ◌∷◌, ◌++◌}
 use Prim.Native.Nat.{ℕ, ◌<◌}
 use native.Mathlib.Omega.{arith}
 use lib.ListN.{length, take}
 use Rattle.rules.specs.Accept.{Piece, build, reflection, expansion, contraction, shrink, run}
 use Rattle.rules.specs.Opening.{opening}
-use Rattle.rules.specs.Calls.{is_ended, standing_of, asking}
+use Rattle.rules.specs.Calls.{standing_of, asking}
 use Rattle.rules.specs.History.{Call, after, history, reading, EarliestLeast}
 use Rattle.rules.specs.Tally.{readings_by, Ends}
 use Rattle.rules.specs.Claims.{Within, BoundAfter, FullRound, Claims}
+use Rattle.rules.specs.declared.Rule.{Rule}
 use Rattle.rules.specs.declared.Axis.{Axis}
 use Rattle.rules.specs.declared.Coefficients.{Coefficients}
-use Rattle.rules.specs.declared.RuleChoice.{RuleChoice}
 use Rattle.rules.specs.declared.Counts.{Counts}
 use Rattle.rules.specs.declared.Search.{Search}
+use Rattle.rules.specs.declared.Asked.{Asked}
 use Rattle.rules.specs.declared.Phase.TheVariants.{Ended}
 use Rattle.rules.specs.declared.Cause.TheVariants.{Settled}
-use Rattle.rules.specs.declared.Verdict.TheVariants.{Accepted}
 use Rattle.rules.proofs.Laws.Openings.{opened_verdict, opened_fresh, opened_sane}
 use Rattle.rules.proofs.Laws.Histories.{Joined}
 use Rattle.rules.proofs.Steps.Invariant.{Equation}
 use Rattle.rules.proofs.Runs.Begun.{Begun, fresh_begun, whole_run, run_inv, run_readings, run_builds, run_reflections, run_expansions, run_contractions, run_shrinks, run_probes, run_unfinished, run_standing, run_places, run_vertices}
 use Rattle.rules.proofs.Runs.Moments.{run_first, made_since, falls_since, run_settled_only, run_settled_when, run_spent, run_within, run_within_told}
-use Rattle.rules.proofs.Runs.Calling.{telling_joins, asking_answers, showing_best, all_follow}
+use Rattle.rules.proofs.Runs.Calling.{telling_joins, asking_answers, asked_trial, showing_best, all_follow}
 
 -- the invariant's equation, once there is a reading
 equation_from : (m n k : ℕ) (c : Counts) → m ≡ n → Equation m k c → 0 < k → k ≡ readings_by n c
@@ -46,8 +46,8 @@ module _ (o : Search) (begun : Begun o) where
   settled_of : (h : List ℕ) → Joined o h → (before round : List ℕ) → h ≡ before ++ round → FullRound o before round → (run o h).phase ≡ Ended Settled
   settled_of h t before round e f = rw e (run_settled_when o begun before round (rw e at t) f)
 
-  within_asked_lem : (h : List ℕ) (t : Joined o h) → is_ended (run o h).phase ≡ false → Within o.setup (asking (run o h)).point
-  within_asked_lem h t e = rw (asking_answers o begun h t e).2 (run_within o begun h t e)
+  within_asked_lem : (h : List ℕ) (t : Joined o h) (a : Asked) → asking (run o h) ≡ Ok a → Within o.setup a.point
+  within_asked_lem h t a e = let p = asked_trial o begun h t a e in rw p.1 (run_within o begun h t p.0)
 
   equation_of : (h : List ℕ) (t : Joined o h) → 0 < length h → (run o h).readings ≡ readings_by o.setup.n (run o h).counts
   equation_of h t l =
@@ -88,11 +88,11 @@ module _ (o : Search) (begun : Begun o) where
   claim_begun cs = let f = all_follow o begun cs [] tt in rw f.1 (claims (history o cs) f.0)
 
 -- an opening that is not refused begins a search
-pub opened_begun : (n : ℕ) (axes : List Axis) (rule : RuleChoice) (c : Coefficients) (budget : ℕ) → (opening n axes rule c budget).verdict ≡ Accepted → Begun (opening n axes rule c budget).search
+pub opened_begun : (n : ℕ) (axes : List Axis) (rule : Option Rule) (c : Coefficients) (budget : ℕ) → (opening n axes rule c budget).verdict ≡ Ok tt → Begun (opening n axes rule c budget).search
 opened_begun n axes rule c budget h =
     rw (opened_fresh n axes rule c budget h) (fresh_begun n axes rule c budget (opened_sane n axes rule c budget (opened_verdict n axes rule c budget h)))
 
 -- for every opening that is not refused and every list of calls, the whole record of claims
-pub claim : (n : ℕ) (axes : List Axis) (rule : RuleChoice) (c : Coefficients) (budget : ℕ) → (opening n axes rule c budget).verdict ≡ Accepted → (cs : List Call)
+pub claim : (n : ℕ) (axes : List Axis) (rule : Option Rule) (c : Coefficients) (budget : ℕ) → (opening n axes rule c budget).verdict ≡ Ok tt → (cs : List Call)
     → let o = (opening n axes rule c budget).search in Claims o (history o cs) (after o cs)
 claim n axes rule c budget h cs = claim_begun (opening n axes rule c budget).search (opened_begun n axes rule c budget h) cs

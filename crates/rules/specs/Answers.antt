@@ -1,9 +1,9 @@
 -- Further worked cases, of later calls: how a search ends, which calls are refused, and the numbers and axes of refusals.
-use Rattle.std.specs.Prelude.{List, [], ◌∷◌, map, ℕ, replicate, Float}
+use Rattle.std.specs.Prelude.{List, [], ◌∷◌, map, ℕ, replicate, Float, Option, Some, None, Ok, Err}
 use Rattle.rules.specs.Binary64.{0ᶠ, 2ᶠ, 8ᶠ}
 use Rattle.rules.specs.Numbers.{usual}
 use Rattle.rules.specs.Accept.{run}
-use Rattle.rules.specs.Refusals.{number_of, axis_of}
+use Rattle.rules.specs.Refusals.{Verdict, number_of, axis_of}
 use Rattle.rules.specs.Opening.{fresh}
 use Rattle.rules.specs.Calls.{ask_verdict, tell_verdict, best_verdict}
 use Rattle.rules.specs.Cases.{case_axis}
@@ -11,15 +11,12 @@ use Rattle.rules.specs.declared.Search.{Search}
 use Rattle.rules.specs.declared.Phase.{Phase}
 use Rattle.rules.specs.declared.Phase.TheVariants.{Reflecting, Ended}
 use Rattle.rules.specs.declared.Cause.TheVariants.{Settled, Budget}
-use Rattle.rules.specs.declared.RuleChoice.TheVariants.{Unnamed}
-use Rattle.rules.specs.declared.Verdict.{Verdict}
-use Rattle.rules.specs.declared.Verdict.TheVariants.{Accepted, Refused}
 use Rattle.rules.specs.declared.Refusal.{Refusal}
 use Rattle.rules.specs.declared.Refusal.TheVariants.{AxisCount, OutOfRange, BadLimits, BadStep, BadCoefficient, BadThreshold, BadBudget, SearchEnded, CostTooHigh, WrongNumber, NoReading, Damaged}
 
 -- the search of an opening over n axes from −8 to 8 with step 1, no rule named
 abbrev pub fresh_with : ℕ → Float → ℕ → Search
-fresh_with n start budget = fresh n (replicate 8 (case_axis start 8ᶠ)) Unnamed usual budget
+fresh_with n start budget = fresh n (replicate 8 (case_axis start 8ᶠ)) None usual budget
 
 -- the phase of `fresh_with` after the costs cs
 abbrev pub phase_after : ℕ → Float → ℕ → List ℕ → Phase
@@ -57,8 +54,8 @@ endings_stated =
 
 -- the number of a verdict's refusal, 0 where it accepts
 abbrev pub refused_as : Verdict → ℕ
-refused_as Accepted = 0
-refused_as (Refused r) = number_of r
+refused_as (Ok _) = 0
+refused_as (Err r) = number_of r
 
 -- a search over two axes with nothing read, of budget 100
 abbrev pub unread_search : Search
@@ -105,7 +102,7 @@ abbrev pub numbers_given : List ℕ
 numbers_given = map number_of every_refusal
 
 -- the axes of `every_refusal` by the rules
-abbrev pub axes_given : List ℕ
+abbrev pub axes_given : List (Option ℕ)
 axes_given = map axis_of every_refusal
 
 -- the numbers of the table
@@ -113,5 +110,5 @@ abbrev pub numbers_stated : List ℕ
 numbers_stated = 1 ∷ 2 ∷ 3 ∷ 4 ∷ 5 ∷ 6 ∷ 7 ∷ 8 ∷ 9 ∷ 10 ∷ 11 ∷ 12 ∷ []
 
 -- "Numbers 2 to 4 come with the axis"
-abbrev pub axes_stated : List ℕ
-axes_stated = 0 ∷ 6 ∷ 7 ∷ 8 ∷ 0 ∷ 0 ∷ 0 ∷ 0 ∷ 0 ∷ 0 ∷ 0 ∷ 0 ∷ []
+abbrev pub axes_stated : List (Option ℕ)
+axes_stated = None ∷ Some 6 ∷ Some 7 ∷ Some 8 ∷ None ∷ None ∷ None ∷ None ∷ None ∷ None ∷ None ∷ None ∷ []

@@ -1,12 +1,11 @@
 -- "Refused calls", the rows of the later calls: ask, tell and best, their refusals in table order, and their answers.
-use Rattle.std.specs.Prelude.{Bool, true, false, cond, not, ◌&&◌, ◌||◌, List, [], ◌∷◌, ℕ, ◌+◌, ◌*◌, get_or, replicate, leb, ltb, eqb}
-use Rattle.std.specs.Float.{nan}
+use Rattle.std.specs.Prelude.{Bool, true, false, cond, not, ◌&&◌, ◌||◌, List, [], ◌∷◌, ℕ, ◌+◌, ◌*◌, leb, ltb, eqb, Result, Ok, Err}
 use Rattle.rules.specs.Binary64.{0ᶠ}
 use Rattle.rules.specs.Numbers.{max_cost, max_budget, max_spread}
-use Rattle.rules.specs.Simplex.{first_of, unpack, blank}
+use Rattle.rules.specs.Simplex.{first_of, unpack}
 use Rattle.rules.specs.Trial.{trial}
 use Rattle.rules.specs.Accept.{accept}
-use Rattle.rules.specs.Refusals.{check}
+use Rattle.rules.specs.Refusals.{Verdict, check, answered}
 use Rattle.rules.specs.declared.Rule.{Rule}
 use Rattle.rules.specs.declared.Rule.TheVariants.{Spread, Moved, Size}
 use Rattle.rules.specs.declared.Phase.{Phase}
@@ -15,10 +14,7 @@ use Rattle.rules.specs.declared.Vertex.{Vertex}
 use Rattle.rules.specs.declared.Counts.{Counts}
 use Rattle.rules.specs.declared.Search.{Search}
 use Rattle.rules.specs.declared.Asked.{Asked}
-use Rattle.rules.specs.declared.Told.{Told}
-use Rattle.rules.specs.declared.Shown.{Shown}
-use Rattle.rules.specs.declared.Verdict.{Verdict}
-use Rattle.rules.specs.declared.Verdict.TheVariants.{Accepted, Refused}
+use Rattle.rules.specs.declared.Refusal.{Refusal}
 use Rattle.rules.specs.declared.Refusal.TheVariants.{SearchEnded, CostTooHigh, WrongNumber, NoReading, Damaged}
 
 -- "search ended"
@@ -95,7 +91,7 @@ undamaged s = is_ended s.phase || sound s
 
 -- ask: 12, 8
 unfoldable pub ask_verdict : Search → Verdict
-ask_verdict s = check (undamaged s) Damaged (check (not (is_ended s.phase)) SearchEnded Accepted)
+ask_verdict s = check (undamaged s) Damaged (check (not (is_ended s.phase)) SearchEnded (Ok tt))
 
 -- tell: 12, 8, 10, 9
 unfoldable pub tell_verdict : Search → ℕ → ℕ → Verdict
@@ -103,35 +99,30 @@ tell_verdict s number cost =
     check (undamaged s) Damaged
     (check (not (is_ended s.phase)) SearchEnded
     (check (eqb number (s.readings + 1)) WrongNumber
-    (check (leb cost max_cost) CostTooHigh Accepted)))
+    (check (leb cost max_cost) CostTooHigh (Ok tt))))
 
 -- best: 12, 11
 unfoldable pub best_verdict : Search → Verdict
-best_verdict s = check (undamaged s) Damaged (check (not (eqb s.readings 0)) NoReading Accepted)
+best_verdict s = check (undamaged s) Damaged (check (not (eqb s.readings 0)) NoReading (Ok tt))
 
--- "Ask answers the trial and its reading number and changes nothing"
-abbrev pub asked_by : Verdict → Search → Asked
-asked_by Accepted s = record { verdict = Accepted; number = s.readings + 1; point = trial s; search = s }
-asked_by (Refused r) s = record { verdict = Refused r; number = 0; point = replicate 8 0ᶠ; search = s }
+-- ask: "Ask answers the trial and its reading number and changes nothing"
+unfoldable pub asking : Search → Result Asked Refusal
+asking s = answered (ask_verdict s) (record { number = s.readings + 1; point = trial s })
+
+-- what a tell answers, and the search after it
+pub record Told : Type 0 where
+  pub verdict : Verdict
+  pub search : Search
 
 -- "A refused tell or query returns its number and the search as given"
 abbrev pub told_by : Verdict → Search → ℕ → Told
-told_by Accepted s c = record { verdict = Accepted; search = accept s c }
-told_by (Refused r) s c = record { verdict = Refused r; search = s }
-
--- the best reading, the search as given
-abbrev pub shown_by : Verdict → Search → Shown
-shown_by Accepted s = record { verdict = Accepted; reading = record { point = first_of s.setup.n 0ᶠ s.best.point; cost = s.best.cost }; search = s }
-shown_by (Refused r) s = record { verdict = Refused r; reading = blank; search = s }
-
--- ask
-unfoldable pub asking : Search → Asked
-asking s = asked_by (ask_verdict s) s
+told_by (Ok _) s c = record { verdict = Ok tt; search = accept s c }
+told_by (Err r) s c = record { verdict = Err r; search = s }
 
 -- tell, with its reading number and cost
 unfoldable pub telling : Search → ℕ → ℕ → Told
 telling s number cost = told_by (tell_verdict s number cost) s cost
 
--- best
-unfoldable pub showing : Search → Shown
-showing s = shown_by (best_verdict s) s
+-- best: the best reading; it changes nothing
+unfoldable pub showing : Search → Result Vertex Refusal
+showing s = answered (best_verdict s) (record { point = first_of s.setup.n 0ᶠ s.best.point; cost = s.best.cost })

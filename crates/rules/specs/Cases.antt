@@ -1,22 +1,20 @@
 -- Further worked cases, each by hand from sentences of document 01 that P1 to P12 do not reach: what the rules give beside what
 -- the sentence says.
-use Rattle.std.specs.Prelude.{List, [], ◌∷◌, ℕ, replicate, Float}
+use Rattle.std.specs.Prelude.{List, [], ◌∷◌, ℕ, replicate, Float, Option, Some, None, Ok, Err}
 use Rattle.std.specs.Float.{binary64, nan}
 use Rattle.std.specs.Float.Ieee.{of_bits, neg}
+use Rattle.rules.specs.Refusals.{Verdict}
 use Rattle.rules.specs.Binary64.{0ᶠ, 1ᶠ, 2ᶠ, 8ᶠ, farthest}
 use Rattle.rules.specs.Numbers.{usual}
 use Rattle.rules.specs.Accept.{run}
 use Rattle.rules.specs.Opening.{zero_axis, open_verdict, fresh}
 use Rattle.rules.specs.Examples.{½, 𝟏, 1¼, 1½, ¼, example_axis, Shows, asks, next}
+use Rattle.rules.specs.declared.Rule.{Rule}
 use Rattle.rules.specs.declared.Axis.{Axis}
 use Rattle.rules.specs.declared.Coefficients.{Coefficients}
-use Rattle.rules.specs.declared.Verdict.{Verdict}
-use Rattle.rules.specs.declared.Verdict.TheVariants.{Accepted, Refused}
 use Rattle.rules.specs.declared.Refusal.TheVariants.{AxisCount, OutOfRange, BadLimits, BadStep, BadCoefficient, BadThreshold, BadBudget}
 use Rattle.rules.specs.declared.Search.{Search}
 use Rattle.rules.specs.declared.Rule.TheVariants.{Spread, Moved, Size}
-use Rattle.rules.specs.declared.RuleChoice.{RuleChoice}
-use Rattle.rules.specs.declared.RuleChoice.TheVariants.{Unnamed, Named}
 
 -- a float by its bits
 abbrev pub bits : ℕ → Float
@@ -31,11 +29,11 @@ abbrev pub two_axes : Axis → Axis → List Axis
 two_axes x y = x ∷ y ∷ replicate 6 zero_axis
 
 -- a search over two axes from −8 to hi with step 1, the usual coefficients, budget 100
-abbrev pub case_search : Float → Float → RuleChoice → Search
+abbrev pub case_search : Float → Float → Option Rule → Search
 case_search start hi rule = fresh 2 (two_axes (case_axis start hi) (case_axis start hi)) rule usual 100
 
 -- the trial that `case_search` asks after the costs cs
-abbrev pub trial_after : Float → Float → RuleChoice → List ℕ → Shows
+abbrev pub trial_after : Float → Float → Option Rule → List ℕ → Shows
 trial_after start hi rule cs = next (run (case_search start hi rule) cs)
 
 -- one axis record, and zeros after it
@@ -44,7 +42,7 @@ one_axis = case_axis 0ᶠ 8ᶠ ∷ replicate 7 zero_axis
 
 -- the input that document 01 gives the program: one axis, budget 4, spread 1
 abbrev pub program_search : Search
-program_search = fresh 1 one_axis (Named (Spread 1)) usual 4
+program_search = fresh 1 one_axis (Some (Spread 1)) usual 4
 
 -- 0.1, of which three add up to more than three times itself
 abbrev pub tenth : Float
@@ -56,39 +54,39 @@ three_axes = case_axis tenth tenth ∷ case_axis 0ᶠ 8ᶠ ∷ case_axis 0ᶠ 8�
 
 -- a search over three axes whose centroid rounds past hi
 abbrev pub rounded_search : Search
-rounded_search = fresh 3 three_axes Unnamed usual 100
+rounded_search = fresh 3 three_axes None usual 100
 
 -- the trials that the rules give, case by case
 unfoldable pub cases_given : List Shows
 cases_given =
     -- the worst vertex (2,2) is left out of c: r is (3,3)
-    trial_after 2ᶠ 8ᶠ Unnamed (30 ∷ 20 ∷ 10 ∷ [])
+    trial_after 2ᶠ 8ᶠ None (30 ∷ 20 ∷ 10 ∷ [])
     -- u = 3 is past hi 2.5, so the build steps back
-    ∷ trial_after 2ᶠ (bits 0x4004_0000_0000_0000) Unnamed (30 ∷ [])
+    ∷ trial_after 2ᶠ (bits 0x4004_0000_0000_0000) None (30 ∷ [])
     -- r is clamped to (0,1.75), and the outside point goes by the clamped r
-    ∷ trial_after 1ᶠ (bits 0x3ffc_0000_0000_0000) Unnamed (10 ∷ 20 ∷ 30 ∷ [])
-    ∷ trial_after 1ᶠ (bits 0x3ffc_0000_0000_0000) Unnamed (10 ∷ 20 ∷ 30 ∷ 25 ∷ [])
+    ∷ trial_after 1ᶠ (bits 0x3ffc_0000_0000_0000) None (10 ∷ 20 ∷ 30 ∷ [])
+    ∷ trial_after 1ᶠ (bits 0x3ffc_0000_0000_0000) None (10 ∷ 20 ∷ 30 ∷ 25 ∷ [])
     -- c is above hi by rounding, r is clamped to hi, and e, twice as far from c, lies below: it goes by the clamped r
     ∷ next (run rounded_search (10 ∷ 40 ∷ 20 ∷ 30 ∷ [])) ∷ next (run rounded_search (10 ∷ 40 ∷ 20 ∷ 30 ∷ 5 ∷ []))
     -- no rule named, spread 4: three equal costs meet it, and a round probes around the first reading: forward, back, next axis
-    ∷ trial_after 2ᶠ 8ᶠ Unnamed (10 ∷ 10 ∷ 10 ∷ [])
-    ∷ trial_after 2ᶠ 8ᶠ Unnamed (10 ∷ 10 ∷ 10 ∷ 10 ∷ [])
-    ∷ trial_after 2ᶠ 8ᶠ Unnamed (10 ∷ 10 ∷ 10 ∷ 10 ∷ 10 ∷ [])
+    ∷ trial_after 2ᶠ 8ᶠ None (10 ∷ 10 ∷ 10 ∷ [])
+    ∷ trial_after 2ᶠ 8ᶠ None (10 ∷ 10 ∷ 10 ∷ 10 ∷ [])
+    ∷ trial_after 2ᶠ 8ᶠ None (10 ∷ 10 ∷ 10 ∷ 10 ∷ 10 ∷ [])
     -- a lower probe restarts around itself, its own cost known
-    ∷ trial_after 2ᶠ 8ᶠ Unnamed (10 ∷ 10 ∷ 10 ∷ 10 ∷ 10 ∷ 9 ∷ [])
-    ∷ trial_after 2ᶠ 8ᶠ Unnamed (10 ∷ 10 ∷ 10 ∷ 10 ∷ 10 ∷ 9 ∷ 12 ∷ [])
+    ∷ trial_after 2ᶠ 8ᶠ None (10 ∷ 10 ∷ 10 ∷ 10 ∷ 10 ∷ 9 ∷ [])
+    ∷ trial_after 2ᶠ 8ᶠ None (10 ∷ 10 ∷ 10 ∷ 10 ∷ 10 ∷ 9 ∷ 12 ∷ [])
     -- moved is never met at a build; (2,2) replaced by (3,3) moves 2, which is < E·2 for E just above 1 only
-    ∷ trial_after 2ᶠ 8ᶠ (Named (Moved farthest)) (30 ∷ 20 ∷ 10 ∷ [])
-    ∷ trial_after 2ᶠ 8ᶠ (Named (Moved 1ᶠ)) (30 ∷ 20 ∷ 10 ∷ 15 ∷ [])
-    ∷ trial_after 2ᶠ 8ᶠ (Named (Moved (bits 0x3ff0_0000_0000_0001))) (30 ∷ 20 ∷ 10 ∷ 15 ∷ [])
+    ∷ trial_after 2ᶠ 8ᶠ (Some (Moved farthest)) (30 ∷ 20 ∷ 10 ∷ [])
+    ∷ trial_after 2ᶠ 8ᶠ (Some (Moved 1ᶠ)) (30 ∷ 20 ∷ 10 ∷ 15 ∷ [])
+    ∷ trial_after 2ᶠ 8ᶠ (Some (Moved (bits 0x3ff0_0000_0000_0001))) (30 ∷ 20 ∷ 10 ∷ 15 ∷ [])
     -- P11 by the opening: with spread 100 the next trial is r, with 101 a probe
-    ∷ trial_after 0ᶠ 8ᶠ (Named (Spread 100)) (30 ∷ 20 ∷ 10 ∷ []) ∷ trial_after 0ᶠ 8ᶠ (Named (Spread 101)) (30 ∷ 20 ∷ 10 ∷ [])
+    ∷ trial_after 0ᶠ 8ᶠ (Some (Spread 100)) (30 ∷ 20 ∷ 10 ∷ []) ∷ trial_after 0ᶠ 8ᶠ (Some (Spread 101)) (30 ∷ 20 ∷ 10 ∷ [])
     -- size: x1 is (2,3), D is 13, and the farthest vertex is 2 away: 0.25² · 13 is less, 0.5² · 13 is not
-    ∷ trial_after 2ᶠ 8ᶠ (Named (Size (bits ¼))) (30 ∷ 20 ∷ 10 ∷ [])
-    ∷ trial_after 2ᶠ 8ᶠ (Named (Size (bits ½))) (30 ∷ 20 ∷ 10 ∷ [])
+    ∷ trial_after 2ᶠ 8ᶠ (Some (Size (bits ¼))) (30 ∷ 20 ∷ 10 ∷ [])
+    ∷ trial_after 2ᶠ 8ᶠ (Some (Size (bits ½))) (30 ∷ 20 ∷ 10 ∷ [])
     -- x1 is (0,1), q is 1, so D is 1: 1.25² is less than 2, 1.5² is not
-    ∷ trial_after 0ᶠ 8ᶠ (Named (Size (bits 1¼))) (30 ∷ 20 ∷ 10 ∷ [])
-    ∷ trial_after 0ᶠ 8ᶠ (Named (Size (bits 1½))) (30 ∷ 20 ∷ 10 ∷ [])
+    ∷ trial_after 0ᶠ 8ᶠ (Some (Size (bits 1¼))) (30 ∷ 20 ∷ 10 ∷ [])
+    ∷ trial_after 0ᶠ 8ᶠ (Some (Size (bits 1½))) (30 ∷ 20 ∷ 10 ∷ [])
     -- the program's example: with n = 1 the second row is never met
     ∷ next program_search ∷ next (run program_search (4 ∷ [])) ∷ next (run program_search (4 ∷ 6 ∷ [])) ∷ next (run program_search (4 ∷ 6 ∷ 4 ∷ []))
     ∷ []
@@ -128,66 +126,66 @@ abbrev pub with_chi : Float → Coefficients
 with_chi chi = record { alpha = 1ᶠ; chi = chi; beta = bits ½; sigma = bits ½ }
 
 -- the verdict on two axis records with the usual coefficients and budget 100
-abbrev pub verdict_on : Axis → Axis → RuleChoice → Verdict
+abbrev pub verdict_on : Axis → Axis → Option Rule → Verdict
 verdict_on x y rule = open_verdict 2 (two_axes x y) rule usual 100
 
 -- the verdict on the opening of `case_search`, with budget 100
-abbrev pub case_verdict : Float → Float → RuleChoice → Verdict
+abbrev pub case_verdict : Float → Float → Option Rule → Verdict
 case_verdict start hi rule = verdict_on (case_axis start hi) (case_axis start hi) rule
 
 -- the verdict on two axes from −8 to 8 with step 1, with other coefficients and another budget
-abbrev pub verdict_with : RuleChoice → Coefficients → ℕ → Verdict
+abbrev pub verdict_with : Option Rule → Coefficients → ℕ → Verdict
 verdict_with rule c budget = open_verdict 2 (two_axes (step_axis 1ᶠ) (step_axis 1ᶠ)) rule c budget
 
 -- the verdicts that the rules give, opening by opening
 unfoldable pub openings_given : List Verdict
 openings_given =
     -- P1 and P12, and the cases above
-    open_verdict 2 (two_axes (example_axis 8ᶠ) (example_axis 8ᶠ)) (Named (Spread 4)) usual 100
-    ∷ open_verdict 2 (two_axes (example_axis (bits 1¼)) (example_axis (bits 1¼))) (Named (Spread 4)) usual 100
-    ∷ case_verdict 2ᶠ 8ᶠ Unnamed ∷ case_verdict 2ᶠ (bits 0x4004_0000_0000_0000) Unnamed ∷ case_verdict 1ᶠ (bits 0x3ffc_0000_0000_0000) Unnamed
-    ∷ open_verdict 3 three_axes Unnamed usual 100
-    ∷ case_verdict 2ᶠ 8ᶠ (Named (Moved farthest)) ∷ case_verdict 2ᶠ 8ᶠ (Named (Moved 1ᶠ)) ∷ case_verdict 2ᶠ 8ᶠ (Named (Moved (bits 0x3ff0_0000_0000_0001)))
-    ∷ case_verdict 2ᶠ 8ᶠ (Named (Size (bits ¼))) ∷ case_verdict 2ᶠ 8ᶠ (Named (Size (bits ½)))
-    ∷ case_verdict 0ᶠ 8ᶠ (Named (Size (bits 1¼))) ∷ case_verdict 0ᶠ 8ᶠ (Named (Size (bits 1½)))
-    ∷ open_verdict 1 one_axis (Named (Spread 1)) usual 4
+    open_verdict 2 (two_axes (example_axis 8ᶠ) (example_axis 8ᶠ)) (Some (Spread 4)) usual 100
+    ∷ open_verdict 2 (two_axes (example_axis (bits 1¼)) (example_axis (bits 1¼))) (Some (Spread 4)) usual 100
+    ∷ case_verdict 2ᶠ 8ᶠ None ∷ case_verdict 2ᶠ (bits 0x4004_0000_0000_0000) None ∷ case_verdict 1ᶠ (bits 0x3ffc_0000_0000_0000) None
+    ∷ open_verdict 3 three_axes None usual 100
+    ∷ case_verdict 2ᶠ 8ᶠ (Some (Moved farthest)) ∷ case_verdict 2ᶠ 8ᶠ (Some (Moved 1ᶠ)) ∷ case_verdict 2ᶠ 8ᶠ (Some (Moved (bits 0x3ff0_0000_0000_0001)))
+    ∷ case_verdict 2ᶠ 8ᶠ (Some (Size (bits ¼))) ∷ case_verdict 2ᶠ 8ᶠ (Some (Size (bits ½)))
+    ∷ case_verdict 0ᶠ 8ᶠ (Some (Size (bits 1¼))) ∷ case_verdict 0ᶠ 8ᶠ (Some (Size (bits 1½)))
+    ∷ open_verdict 1 one_axis (Some (Spread 1)) usual 4
     -- 1: n not 1 to 8
-    ∷ open_verdict 0 one_axis Unnamed usual 100 ∷ open_verdict 9 one_axis Unnamed usual 100
+    ∷ open_verdict 0 one_axis None usual 100 ∷ open_verdict 9 one_axis None usual 100
     -- 2: a NaN; but records past n are not read
-    ∷ verdict_on (step_axis 1ᶠ) (step_axis nan) Unnamed ∷ open_verdict 1 (two_axes (step_axis 1ᶠ) (step_axis nan)) Unnamed usual 100
+    ∷ verdict_on (step_axis 1ᶠ) (step_axis nan) None ∷ open_verdict 1 (two_axes (step_axis 1ᶠ) (step_axis nan)) None usual 100
     -- 2: a start that is a NaN is refused by 2, and not by 3; 3 on axis 1 comes before 2 on axis 2
-    ∷ verdict_on (step_axis 1ᶠ) (case_axis nan 8ᶠ) Unnamed ∷ verdict_on (case_axis 0ᶠ (bits 0xc022_0000_0000_0000)) (case_axis nan 8ᶠ) Unnamed
+    ∷ verdict_on (step_axis 1ᶠ) (case_axis nan 8ᶠ) None ∷ verdict_on (case_axis 0ᶠ (bits 0xc022_0000_0000_0000)) (case_axis nan 8ᶠ) None
     -- 3: lo = hi, start > hi, step 0
-    ∷ case_verdict (neg 8ᶠ) (neg 8ᶠ) Unnamed ∷ case_verdict 2ᶠ 1ᶠ Unnamed ∷ verdict_on (step_axis 0ᶠ) (step_axis 1ᶠ) Unnamed
+    ∷ case_verdict (neg 8ᶠ) (neg 8ᶠ) None ∷ case_verdict 2ᶠ 1ᶠ None ∷ verdict_on (step_axis 0ᶠ) (step_axis 1ᶠ) None
     -- 4: 8 is half of hi − lo, the next number is more, and comes before axis 2's refusal; 8 + 2⁻⁶⁰ equals 8
-    ∷ verdict_on (step_axis 8ᶠ) (step_axis 8ᶠ) Unnamed ∷ verdict_on (step_axis (bits 0x4020_0000_0000_0001)) (step_axis nan) Unnamed
-    ∷ verdict_on (step_axis 1ᶠ) (record { lo = neg 8ᶠ; hi = 8ᶠ; start = 8ᶠ; step = bits 0x3c30_0000_0000_0000 }) Unnamed
+    ∷ verdict_on (step_axis 8ᶠ) (step_axis 8ᶠ) None ∷ verdict_on (step_axis (bits 0x4020_0000_0000_0001)) (step_axis nan) None
+    ∷ verdict_on (step_axis 1ᶠ) (record { lo = neg 8ᶠ; hi = 8ᶠ; start = 8ᶠ; step = bits 0x3c30_0000_0000_0000 }) None
     -- 5: χ not above 1 and α, and before 6; χ at most 8
-    ∷ verdict_with (Named (Spread 0)) (with_chi 1ᶠ) 100 ∷ verdict_with Unnamed (with_chi 8ᶠ) 100 ∷ verdict_with Unnamed (with_chi (bits 0x4020_0000_0000_0001)) 100
+    ∷ verdict_with (Some (Spread 0)) (with_chi 1ᶠ) 100 ∷ verdict_with None (with_chi 8ᶠ) 100 ∷ verdict_with None (with_chi (bits 0x4020_0000_0000_0001)) 100
     -- 6: spread from 1, a float above 0, and before 7
-    ∷ verdict_with (Named (Spread 0)) usual 2 ∷ verdict_with (Named (Spread 4294967295)) usual 100 ∷ verdict_with (Named (Spread 4294967296)) usual 100 ∷ verdict_with (Named (Moved 0ᶠ)) usual 100
+    ∷ verdict_with (Some (Spread 0)) usual 2 ∷ verdict_with (Some (Spread 4294967295)) usual 100 ∷ verdict_with (Some (Spread 4294967296)) usual 100 ∷ verdict_with (Some (Moved 0ᶠ)) usual 100
     -- 7: n+1 to 1,000,000
-    ∷ verdict_with Unnamed usual 2 ∷ verdict_with Unnamed usual 3 ∷ verdict_with Unnamed usual 1000000 ∷ verdict_with Unnamed usual 1000001
+    ∷ verdict_with None usual 2 ∷ verdict_with None usual 3 ∷ verdict_with None usual 1000000 ∷ verdict_with None usual 1000001
     ∷ []
 
 -- what the table says of each opening of `openings_given`, in its order
 unfoldable pub openings_stated : List Verdict
 openings_stated =
-    Accepted
-    ∷ Accepted
-    ∷ Accepted ∷ Accepted ∷ Accepted
-    ∷ Accepted
-    ∷ Accepted ∷ Accepted ∷ Accepted
-    ∷ Accepted ∷ Accepted
-    ∷ Accepted ∷ Accepted
-    ∷ Accepted
-    ∷ Refused AxisCount ∷ Refused AxisCount
-    ∷ Refused (OutOfRange 2) ∷ Accepted
-    ∷ Refused (OutOfRange 2) ∷ Refused (BadLimits 1)
-    ∷ Refused (BadLimits 1) ∷ Refused (BadLimits 1) ∷ Refused (BadLimits 1)
-    ∷ Accepted ∷ Refused (BadStep 1)
-    ∷ Refused (BadStep 2)
-    ∷ Refused BadCoefficient ∷ Accepted ∷ Refused BadCoefficient
-    ∷ Refused BadThreshold ∷ Accepted ∷ Refused BadThreshold ∷ Refused BadThreshold
-    ∷ Refused BadBudget ∷ Accepted ∷ Accepted ∷ Refused BadBudget
+    Ok tt
+    ∷ Ok tt
+    ∷ Ok tt ∷ Ok tt ∷ Ok tt
+    ∷ Ok tt
+    ∷ Ok tt ∷ Ok tt ∷ Ok tt
+    ∷ Ok tt ∷ Ok tt
+    ∷ Ok tt ∷ Ok tt
+    ∷ Ok tt
+    ∷ Err AxisCount ∷ Err AxisCount
+    ∷ Err (OutOfRange 2) ∷ Ok tt
+    ∷ Err (OutOfRange 2) ∷ Err (BadLimits 1)
+    ∷ Err (BadLimits 1) ∷ Err (BadLimits 1) ∷ Err (BadLimits 1)
+    ∷ Ok tt ∷ Err (BadStep 1)
+    ∷ Err (BadStep 2)
+    ∷ Err BadCoefficient ∷ Ok tt ∷ Err BadCoefficient
+    ∷ Err BadThreshold ∷ Ok tt ∷ Err BadThreshold ∷ Err BadThreshold
+    ∷ Err BadBudget ∷ Ok tt ∷ Ok tt ∷ Err BadBudget
     ∷ []

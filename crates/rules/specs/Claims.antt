@@ -1,5 +1,5 @@
 -- Demand 3: the claim about every list of calls on a newly opened search, stated whole.
-use Rattle.std.specs.Prelude.{◌≡◌, ◌↔◌, true, false, cond, ℕ, ◌+◌, ◌*◌, ◌<◌, ◌≤◌, length, get_or, take, eqb, Float}
+use Rattle.std.specs.Prelude.{◌≡◌, ◌↔◌, true, false, cond, ℕ, ◌+◌, ◌*◌, ◌<◌, ◌≤◌, length, get_or, take, eqb, Float, Ok}
 use mathlib.Core.List.{List, [], ◌∷◌, ◌++◌, map, Memᴰ}
 use Rattle.std.specs.Float.{nan}
 use Rattle.rules.specs.Binary64.{◌≤ᶠ◌}
@@ -12,8 +12,8 @@ use Rattle.rules.specs.History.{joins, reading, EarliestLeast}
 use Rattle.rules.specs.Tally.{made, others, probes_in, open_in, readings_by, Ends, EndsIn}
 use Rattle.rules.specs.declared.Phase.TheVariants.{Probing, Ended}
 use Rattle.rules.specs.declared.Cause.TheVariants.{Settled, Budget}
-use Rattle.rules.specs.declared.Verdict.TheVariants.{Accepted}
 use Rattle.rules.specs.declared.Vertex.{Vertex}
+use Rattle.rules.specs.declared.Asked.{Asked}
 use Rattle.rules.specs.declared.Setup.{Setup}
 use Rattle.rules.specs.declared.Search.{Search}
 
@@ -45,15 +45,15 @@ pub record Claims (o : Search) (h : List ℕ) (s : Search) : Type 0 where
   pub carried : s ≡ run o h
   pub kept : s.setup ≡ o.setup
   -- "A tell is accepted .. exactly when", and "trial k is the point that the rules ask .., which ask then answers"
-  pub accepts : (k c : ℕ) → ((telling s k c).verdict ≡ Accepted) ↔ (joins o h k c ≡ true)
-  pub asks : is_ended s.phase ≡ false → ((asking s).verdict ≡ Accepted) × ((asking s).number ≡ length h + 1) × ((asking s).point ≡ trial (run o h))
+  pub accepts : (k c : ℕ) → ((telling s k c).verdict ≡ Ok tt) ↔ (joins o h k c ≡ true)
+  pub asks : is_ended s.phase ≡ false → asking s ≡ Ok (record { number = length h + 1; point = trial (run o h) })
   -- order: "Vertices are ordered by cost, lowest first"
   pub sorted : Ordered (standing_of s)
   -- vertices: the simplex is empty before the first build ends, n + 1 vertices afterwards, and each is an accepted reading
   pub places : length (standing_of s) ≡ cond (eqb (made build o h) 0) 0 (o.setup.n + 1)
   pub vertices : (v : Vertex) → Memᴰ v (standing_of s) → (k : ℕ) × (k < length h) × (v ≡ reading o h k)
   -- best: "the earliest least reading"
-  pub best : 0 < length h → (k : ℕ) × EarliestLeast h k × ((showing s).verdict ≡ Accepted) × ((showing s).reading ≡ reading o h k)
+  pub best : 0 < length h → (k : ℕ) × EarliestLeast h k × (showing s ≡ Ok (reading o h k))
   -- first vertex: at the end of every build and iteration it is the earliest least of the readings till then
   pub first : (before : List ℕ) (c : ℕ) (since : List ℕ) → h ≡ before ++ c ∷ since → Ends o before c
       → (k : ℕ) × EarliestLeast (before ++ c ∷ []) k × (take 1 (standing_of (run o (before ++ c ∷ []))) ≡ reading o h k ∷ [])
@@ -78,4 +78,4 @@ pub record Claims (o : Search) (h : List ℕ) (s : Search) : Type 0 where
   pub spent : (s.phase ≡ Ended Budget) ↔ ((length h ≡ o.setup.budget) × (s.phase ≡ Ended Settled → ⊥))
   -- every trial lies within the axis limits: those told, and the one that is asked
   pub within_told : (k : ℕ) → k < length h → Within o.setup (reading o h k).point
-  pub within_asked : is_ended s.phase ≡ false → Within o.setup (asking s).point
+  pub within_asked : (a : Asked) → asking s ≡ Ok a → Within o.setup a.point

@@ -1,5 +1,5 @@
 -- "Examples with two axes": P1 to P12 as one list, what the rules give beside what document 01 says.
-use Rattle.std.specs.Prelude.{Bool, true, false, List, [], ◌∷◌, ℕ, replicate, get_or, Float}
+use Rattle.std.specs.Prelude.{Bool, true, false, List, [], ◌∷◌, ℕ, replicate, get_or, Float, Some}
 use Rattle.std.specs.Float.{binary64}
 use Rattle.std.specs.Float.Ieee.{of_bits, to_bits, neg}
 use Rattle.rules.specs.Binary64.{0ᶠ, 1ᶠ, 8ᶠ}
@@ -13,7 +13,6 @@ use Rattle.rules.specs.declared.Axis.{Axis}
 use Rattle.rules.specs.declared.Search.{Search}
 use Rattle.rules.specs.declared.Vertex.{Vertex}
 use Rattle.rules.specs.declared.Rule.TheVariants.{Spread}
-use Rattle.rules.specs.declared.RuleChoice.TheVariants.{Named}
 
 -- the bits of 0.25
 abbrev pub ¼ : ℕ
@@ -45,7 +44,7 @@ example_axis hi = record { lo = neg 8ᶠ; hi = hi; start = 0ᶠ; step = 1ᶠ }
 
 -- the examples' search as opened, "spread 4, budget 100"
 abbrev pub example_search : Float → Search
-example_search hi = fresh 2 (example_axis hi ∷ example_axis hi ∷ replicate 6 zero_axis) (Named (Spread 4)) usual 100
+example_search hi = fresh 2 (example_axis hi ∷ example_axis hi ∷ replicate 6 zero_axis) (Some (Spread 4)) usual 100
 
 -- what an example shows: the two coordinates asked for, by their bits; the vertex at a place, with its cost; whether a rule is met
 pub data Shows : Type 0 where

@@ -1,7 +1,7 @@
 -- Worked cases of what a search carries and no trial shows at once: the movement where r is taken after e and at a shrink, the counts
 -- after each kind of piece, the point that a build goes around, the best cost that refusal 12 tests.
-use Rattle.std.specs.Prelude.{List, [], ◌∷◌, ℕ}
-use Rattle.rules.specs.Binary64.{1ᶠ, 2ᶠ, 8ᶠ}
+use Rattle.std.specs.Prelude.{List, [], ◌∷◌, ℕ, Some, None}
+use Rattle.rules.specs.Binary64.{2ᶠ, 8ᶠ}
 use Rattle.rules.specs.Accept.{run}
 use Rattle.rules.specs.Calls.{ask_verdict}
 use Rattle.rules.specs.Examples.{Shows, asks, bits_at, after_p1}
@@ -9,11 +9,10 @@ use Rattle.rules.specs.Cases.{bits, case_search, trial_after}
 use Rattle.rules.specs.Answers.{unread_search, refused_as}
 use Rattle.rules.specs.declared.Search.{Search}
 use Rattle.rules.specs.declared.Rule.TheVariants.{Moved}
-use Rattle.rules.specs.declared.RuleChoice.TheVariants.{Unnamed, Named}
 
 -- the trial that two axes from −8 to 8, started at 2, ask after the costs cs under moved with the E of these bits
 abbrev pub moved_after : ℕ → List ℕ → Shows
-moved_after e cs = trial_after 2ᶠ 8ᶠ (Named (Moved (bits e))) cs
+moved_after e cs = trial_after 2ᶠ 8ᶠ (Some (Moved (bits e))) cs
 
 -- the pieces that a search has finished: builds, reflections, expansions, contractions, shrinks
 abbrev pub pieces_of : Search → List ℕ
@@ -21,7 +20,7 @@ pieces_of s = s.counts.builds ∷ s.counts.reflections ∷ s.counts.expansions �
 
 -- the point that the search of two axes, started at 2, builds around after the costs cs
 abbrev pub center_after : List ℕ → Shows
-center_after cs = let x = (run (case_search 2ᶠ 8ᶠ Unnamed) cs).center in asks (bits_at x 0) (bits_at x 1)
+center_after cs = let x = (run (case_search 2ᶠ 8ᶠ None) cs).center in asks (bits_at x 0) (bits_at x 1)
 
 -- the search s with another best cost, which no call gives it
 abbrev pub with_best : ℕ → Search → Search

@@ -3,7 +3,7 @@ use Rattle.std.specs.Prelude.{Bool, cond, not, ◌&&◌, List, [], ◌∷◌, �
 use Rattle.rules.specs.Numbers.{max_cost}
 use Rattle.rules.specs.Trial.{trial}
 use Rattle.rules.specs.Accept.{run}
-use Rattle.rules.specs.Calls.{is_ended, asking, telling, showing}
+use Rattle.rules.specs.Calls.{is_ended, telling}
 use Rattle.rules.specs.declared.Vertex.{Vertex}
 use Rattle.rules.specs.declared.Search.{Search}
 
@@ -13,11 +13,11 @@ pub data Call : Type 0 where
   tell : ℕ → ℕ → Call
   best : Call
 
--- the search that a call returns
+-- the search after a call: ask and best change nothing
 abbrev pub after1 : Search → Call → Search
-after1 s ask = (asking s).search
+after1 s ask = s
 after1 s (tell k c) = (telling s k c).search
-after1 s best = (showing s).search
+after1 s best = s
 
 -- "each call is handed the search that the call before returned"
 unfoldable pub after : Search → List Call → Search

@@ -1,17 +1,15 @@
 -- "Refused calls", the rows of the opening: its checks in table order, and the search that it gives.
-use Rattle.std.specs.Prelude.{Bool, not, ◌&&◌, List, [], ◌++◌, map, ℕ, zero, suc, ◌+◌, ◌-◌, get_or, take, replicate, leb, Float}
+use Rattle.std.specs.Prelude.{Bool, not, ◌&&◌, List, [], map, ℕ, zero, suc, ◌+◌, get_or, replicate, leb, Float, Option, Some, None, Ok, Err}
 use Rattle.std.specs.Float.Ieee.{neg, eq}
 use Rattle.rules.specs.Binary64.{0ᶠ, 1ᶠ, 2ᶠ, 4ᶠ, 8ᶠ, farthest, ◌⊕◌, ◌⊖◌, ◌⊘◌, ◌≤ᶠ◌, ◌<ᶠ◌}
 use Rattle.rules.specs.Simplex.{first_of, pack, blank}
 use Rattle.rules.specs.Numbers.{max_budget, max_spread}
 use Rattle.rules.specs.Trial.{no_axis}
-use Rattle.rules.specs.Refusals.{check}
+use Rattle.rules.specs.Refusals.{Verdict, check}
 use Rattle.rules.specs.declared.Axis.{Axis}
 use Rattle.rules.specs.declared.Coefficients.{Coefficients}
 use Rattle.rules.specs.declared.Rule.{Rule}
 use Rattle.rules.specs.declared.Rule.TheVariants.{Spread, Moved, Size}
-use Rattle.rules.specs.declared.RuleChoice.{RuleChoice}
-use Rattle.rules.specs.declared.RuleChoice.TheVariants.{Unnamed, Named}
 use Rattle.rules.specs.declared.Setup.{Setup}
 use Rattle.rules.specs.declared.Phase.{Phase}
 use Rattle.rules.specs.declared.Phase.TheVariants.{Building, Ended}
@@ -19,8 +17,6 @@ use Rattle.rules.specs.declared.Cause.TheVariants.{Budget}
 use Rattle.rules.specs.declared.Search.{Search}
 use Rattle.rules.specs.declared.Counts.{Counts}
 use Rattle.rules.specs.declared.Opened.{Opened}
-use Rattle.rules.specs.declared.Verdict.{Verdict}
-use Rattle.rules.specs.declared.Verdict.TheVariants.{Accepted, Refused}
 use Rattle.rules.specs.declared.Refusal.TheVariants.{AxisCount, OutOfRange, BadLimits, BadStep, BadCoefficient, BadThreshold, BadBudget}
 
 -- refusal 2: "fails −1,048,576 ≤ v ≤ 1,048,576 (so NaN too)"
@@ -62,18 +58,18 @@ in_threshold (Moved e) = (0ᶠ <ᶠ e) && (e ≤ᶠ farthest)
 in_threshold (Size e) = (0ᶠ <ᶠ e) && (e ≤ᶠ farthest)
 
 -- "An opening that names none gets spread 4"
-abbrev pub rule_of : RuleChoice → Rule
-rule_of Unnamed = Spread 4
-rule_of (Named r) = r
+abbrev pub rule_of : Option Rule → Rule
+rule_of None = Spread 4
+rule_of (Some r) = r
 
 -- the opening's refusals, 1 to 7, in table order
-unfoldable pub open_verdict : ℕ → List Axis → RuleChoice → Coefficients → ℕ → Verdict
+unfoldable pub open_verdict : ℕ → List Axis → Option Rule → Coefficients → ℕ → Verdict
 open_verdict n axes rule c budget =
     check (leb 1 n && leb n 8) AxisCount
     (axes_checks n 0 axes
     (check (in_coefficients c) BadCoefficient
     (check (in_threshold (rule_of rule)) BadThreshold
-    (check (leb (n + 1) budget && leb budget max_budget) BadBudget Accepted))))
+    (check (leb (n + 1) budget && leb budget max_budget) BadBudget (Ok tt)))))
 
 -- an axis record of zeros
 abbrev pub zero_axis : Axis
@@ -109,14 +105,14 @@ abbrev pub keep : ℕ → List Axis → List Axis
 keep n axes = first_of n zero_axis axes
 
 -- the search of an opening that is not refused: its first trial is the start point
-unfoldable pub fresh : ℕ → List Axis → RuleChoice → Coefficients → ℕ → Search
+unfoldable pub fresh : ℕ → List Axis → Option Rule → Coefficients → ℕ → Search
 fresh n axes rule c budget = unread (record { n = n; axes = keep n axes; coefficients = c; rule = rule_of rule; budget = budget }) (Building 0) (map start_of (keep n axes))
 
 -- the answer by the verdict
 abbrev pub opened_by : Verdict → Search → Opened
-opened_by Accepted s = record { verdict = Accepted; search = s }
-opened_by (Refused r) s = record { verdict = Refused r; search = closed }
+opened_by (Ok _) s = record { verdict = Ok tt; search = s }
+opened_by (Err r) s = record { verdict = Err r; search = closed }
 
 -- the opening: "An opening gives n and eight records"
-unfoldable pub opening : ℕ → List Axis → RuleChoice → Coefficients → ℕ → Opened
+unfoldable pub opening : ℕ → List Axis → Option Rule → Coefficients → ℕ → Opened
 opening n axes rule c budget = opened_by (open_verdict n axes rule c budget) (fresh n axes rule c budget)

@@ -1,7 +1,5 @@
 -- "Refused calls": what every call uses of the table, the number and the axis of each refusal and the order of the checks.
-use Rattle.std.specs.Prelude.{Bool, true, false, ℕ}
-use Rattle.rules.specs.declared.Verdict.{Verdict}
-use Rattle.rules.specs.declared.Verdict.TheVariants.{Refused}
+use Rattle.std.specs.Prelude.{Bool, true, false, ℕ, Option, Some, None, Result, Ok, Err}
 use Rattle.rules.specs.declared.Refusal.{Refusal}
 use Rattle.rules.specs.declared.Refusal.TheVariants.{AxisCount, OutOfRange, BadLimits, BadStep, BadCoefficient, BadThreshold, BadBudget, SearchEnded, CostTooHigh, WrongNumber, NoReading, Damaged}
 
@@ -20,22 +18,31 @@ number_of WrongNumber = 10
 number_of NoReading = 11
 number_of Damaged = 12
 
--- "Numbers 2 to 4 come with the axis, from 1"; 0 where there is none
-abbrev pub axis_of : Refusal → ℕ
-axis_of AxisCount = 0
-axis_of (OutOfRange axis) = axis
-axis_of (BadLimits axis) = axis
-axis_of (BadStep axis) = axis
-axis_of BadCoefficient = 0
-axis_of BadThreshold = 0
-axis_of BadBudget = 0
-axis_of SearchEnded = 0
-axis_of CostTooHigh = 0
-axis_of WrongNumber = 0
-axis_of NoReading = 0
-axis_of Damaged = 0
+-- "Numbers 2 to 4 come with the axis, from 1"
+abbrev pub axis_of : Refusal → Option ℕ
+axis_of AxisCount = None
+axis_of (OutOfRange axis) = Some axis
+axis_of (BadLimits axis) = Some axis
+axis_of (BadStep axis) = Some axis
+axis_of BadCoefficient = None
+axis_of BadThreshold = None
+axis_of BadBudget = None
+axis_of SearchEnded = None
+axis_of CostTooHigh = None
+axis_of WrongNumber = None
+axis_of NoReading = None
+axis_of Damaged = None
+
+-- what the checks of a call come to: they pass, or one of them refuses
+abbrev pub Verdict : Type 0
+Verdict = Result (Unit {0}) Refusal
 
 -- "Checks run in table order": one of them, what it refuses with where it fails, and the verdict of those after it
 abbrev pub check : Bool → Refusal → Verdict → Verdict
 check true r v = v
-check false r v = Refused r
+check false r v = Err r
+
+-- what a call answers: x where its checks pass, else the refusal
+abbrev pub answered : {A : Type 0} → Verdict → A → Result A Refusal
+answered (Ok _) x = Ok x
+answered (Err r) x = Err r

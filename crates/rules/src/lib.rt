@@ -21,7 +21,7 @@ pub const USUAL: Coefficients = Coefficients {
 };
 
 // One axis record: its limits, the position where it starts, and the first step along it.
-#[derive(Clone, Copy)]
+#[derive(Clone, Copy, Default)]
 pub struct Axis {
     pub lo: f64,
     pub hi: f64,
@@ -30,7 +30,7 @@ pub struct Axis {
 }
 
 // The coefficients of reflection (alpha), expansion (chi), contraction (beta) and shrink (sigma).
-#[derive(Clone, Copy)]
+#[derive(Clone, Copy, Default)]
 pub struct Coefficients {
     pub alpha: f64,
     pub chi: f64,
@@ -46,11 +46,15 @@ pub enum Rule {
     Size(f64),
 }
 
-// What an opening says of the rule: it names one, or none.
+// What an opening asks for: the axis count n, eight axis records of which those past n are not read, a stopping rule or
+// none, the coefficients and the budget.
 #[derive(Clone, Copy)]
-pub enum RuleChoice {
-    Unnamed,
-    Named(Rule),
+pub struct Opening {
+    pub n: usize,
+    pub axes: [Axis; 8],
+    pub rule: Option<Rule>,
+    pub coefficients: Coefficients,
+    pub budget: u64,
 }
 
 // The side of a contraction: towards the reflected point, or towards the worst vertex.
@@ -86,7 +90,7 @@ pub enum Phase {
 }
 
 // A point with its cost. Coordinates past the axis count are 0.
-#[derive(Clone, Copy)]
+#[derive(Clone, Copy, Default)]
 pub struct Vertex {
     pub point: [f64; 8],
     pub cost: u64,
@@ -101,7 +105,7 @@ pub struct Simplex {
 
 // Finished builds, reflections, expansions, contractions and shrinks; probe readings; and the readings
 // told in the unfinished piece, which document 01 calls Open.
-#[derive(Clone, Copy)]
+#[derive(Clone, Copy, Default)]
 pub struct Counts {
     pub builds: u64,
     pub reflections: u64,
@@ -154,39 +158,16 @@ pub enum Refusal {
     Damaged,
 }
 
-#[derive(Clone, Copy)]
-pub enum Verdict {
-    Accepted,
-    Refused(Refusal),
-}
-
-// The answer of an opening.
+// The answer of an opening: whether it is accepted, and the search, which is closed where it is not.
 #[derive(Clone, Copy)]
 pub struct Opened {
-    pub verdict: Verdict,
+    pub verdict: Result<(), Refusal>,
     pub search: Search,
 }
 
-// The answer of ask: the trial with its reading number.
-#[derive(Clone, Copy)]
+// What ask answers: the trial with its reading number.
+#[derive(Clone, Copy, Default)]
 pub struct Asked {
-    pub verdict: Verdict,
     pub number: u64,
     pub point: [f64; 8],
-    pub search: Search,
-}
-
-// The answer of tell.
-#[derive(Clone, Copy)]
-pub struct Told {
-    pub verdict: Verdict,
-    pub search: Search,
-}
-
-// The answer of best: the earliest reading of least cost.
-#[derive(Clone, Copy)]
-pub struct Shown {
-    pub verdict: Verdict,
-    pub reading: Vertex,
-    pub search: Search,
 }

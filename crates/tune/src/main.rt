@@ -3,7 +3,6 @@
 #![tactic(auto)]
 
 ghost use Rattle.std.specs.Prelude.{◌≡◌, false, ◌<◌};
-ghost use Rattle.std.specs.Io.{ReadsAtMost};
 ghost use Rattle.tune_text.specs.Reading.{is_done};
 ghost use Rattle.tune_text.specs.Steps.{steps_left};
 
@@ -11,58 +10,31 @@ use std::io;
 use std::io::Read;
 use tune_text::State;
 
-// The state after some steps, and whether all their lines were written.
-#[derive(Clone, Copy)]
-struct Written {
-    state: State,
-    whole: bool,
-}
-
 // Makes as many steps as a buffer has room for, and writes their lines.
-fn write_some(rt: &impl Print, input: &[u8], state: State) -> Written
-    requires { is_done state.progress.stage ≡ false }
-    ensures { steps_left input.now result.state < steps_left input.now state }
+fn write_some(rt: &impl Print, input: &[u8], state: &mut State) -> io::Result<()>
+    requires { is_done state.old.progress.stage ≡ false }
+    ensures { steps_left input.now state.new < steps_left input.now state.old }
 {
     let mut buffer = [0u8; 65536];
-    let filled = tune_text::fill(input, state, &mut buffer);
-    let count = filled.count;
-    let whole = rt.write_all(&buffer[..count]).is_ok();
-    let next = filled.state;
-    Written { state: next, whole }
+    let count = state.fill(input, &mut buffer);
+    rt.write_all(&buffer[..count])
 }
 
 // Makes all steps for this input, or stops at the first write that fails.
-fn tune(rt: &(impl Print + Eprint), input: &[u8]) {
-    let mut state = tune_text::first();
-    while !tune_text::is_done(state) {
-        let written = write_some(rt, input, state);
-        if !written.whole {
-            let _ = rt.eprintln("tune: standard output takes no more");
-            return;
-        }
-        state = written.state;
+fn tune(rt: &impl Print, input: &[u8]) -> io::Result<()> {
+    let mut state = State::first();
+    while !state.is_done() {
+        write_some(rt, input, &mut state)?;
     }
-}
-
-// Reads until the buffer is full or the input ends, and gives how many bytes of it were read.
-fn read_full(reader: &mut impl Read, buffer: &mut [u8]) -> io::Result<usize>
-    ensures { ReadsAtMost result buffer.new }
-{
-    let mut done = 0;
-    while done < buffer.len() {
-        let count = reader.read(&mut buffer[done..])?;
-        if count == 0 {
-            break;
-        }
-        done += count;
-    }
-    Ok(done)
+    Ok(())
 }
 
 // 65,537 bytes are enough to know that an input is too long.
 fn main(rt: HostRuntime) -> io::Result<()> {
-    let mut input = [0u8; 65537];
-    let count = read_full(&mut rt.stdin(), &mut input)?;
-    tune(&rt, &input[..count]);
+    let mut input = Vec::new(rt.alloc());
+    rt.stdin().take(65537).read_to_end(&mut input)?;
+    if tune(&rt, &input).is_err() {
+        let _ = rt.eprintln("tune: standard output takes no more");
+    }
     Ok(())
 }

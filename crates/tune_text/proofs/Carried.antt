@@ -1,26 +1,27 @@
 -- The search that the steps carry is one that an accepted opening and calls have made: the rules' claim holds of it, and few refusals
 -- are ever printed. Assumes nothing.
+use Rattle.std.specs.Prelude.{Some, Result, Ok, Err}
 use mathlib.Core.Path.{◌≡◌, refl, sym, ap, ◌∙◌}
-use mathlib.Core.Bool.{Bool, true, false, true≢false, cond, ◌&&◌}
+use mathlib.Core.Bool.{Bool, true, false, true≢false, ◌&&◌}
 use mathlib.Core.List.{List, [], ◌∷◌, ◌++◌}
-use Prim.Native.Nat.{ℕ, zero, suc, ◌+◌, ◌≤◌, ◌<◌}
+use Prim.Native.Nat.{ℕ, zero, suc, ◌+◌, ◌≤◌}
 use native.Mathlib.Omega.{arith}
 use lib.ListN.{length, get_or}
-use lib.Dec.{leb, ltb, eqb}
-use borrow.Author.Tests.{eq-eqb, eqb-false}
+use lib.Dec.{leb, ltb}
+use borrow.Author.Tests.{eq-eqb}
 use Rattle.rules.specs.Numbers.{max_cost, usual}
-use Rattle.rules.specs.Refusals.{number_of, check}
+use Rattle.rules.specs.Refusals.{Verdict, number_of, check}
 use Rattle.rules.specs.Opening.{all_in_range, in_limits, in_step, axes_checks, in_coefficients, in_threshold, open_verdict, opening}
-use Rattle.rules.specs.Trial.{no_axis}
-use Rattle.rules.specs.Calls.{is_ended, undamaged, ask_verdict, tell_verdict, asking, telling, showing}
-use Rattle.rules.specs.History.{Call, tell, after1, after, history}
+use Rattle.rules.specs.Trial.{no_axis, trial}
+use Rattle.rules.specs.Accept.{run}
+use Rattle.rules.specs.Calls.{is_ended, undamaged, tell_verdict, asking, telling, showing}
+use Rattle.rules.specs.History.{tell, after1, after, history, reading}
 use Rattle.rules.specs.Claims.{Claims}
 use Rattle.rules.specs.declared.Axis.{Axis}
+use Rattle.rules.specs.declared.Asked.{Asked}
+use Rattle.rules.specs.declared.Vertex.{Vertex}
 use Rattle.rules.specs.declared.Rule.TheVariants.{Spread}
-use Rattle.rules.specs.declared.RuleChoice.TheVariants.{Named}
 use Rattle.rules.specs.declared.Search.{Search}
-use Rattle.rules.specs.declared.Verdict.{Verdict}
-use Rattle.rules.specs.declared.Verdict.TheVariants.{Accepted, Refused}
 use Rattle.rules.specs.declared.Refusal.{Refusal}
 use Rattle.rules.specs.declared.Refusal.TheVariants.{AxisCount, OutOfRange, BadLimits, BadStep, BadCoefficient, BadThreshold, BadBudget, CostTooHigh}
 use Rattle.rules.proofs.Examples.{floats}
@@ -31,15 +32,15 @@ use Rattle.rules.proofs.Claim.{claim}
 use Rattle.rules.proofs.Callers.{after_snoc, check_elim, sound_always}
 use Rattle.tune_text.specs.Fields.{whole_number, hexadecimal, is_line, values}
 use Rattle.tune_text.specs.Lines.{best_line, end_line}
-use Rattle.tune_text.specs.Reading.{Turned, nothing_read, opening_of, turn_opened, opening_turn, axis_lines, axes_read, request_of, axis_from, with_axis, turn_told, answer_of, cost_told, line_read, ending_of, best_by, search_end}
-use Rattle.tune_text.specs.Steps.{first_state, stepping, state_after}
+use Rattle.tune_text.specs.Reading.{Turned, nothing_read, opening_of, turn_opened, opening_turn, axis_lines, axes_read, request_of, axis_from, with_axis, turn_told, turn_asked, cost_told, line_read, ending_of, search_end}
+use Rattle.tune_text.specs.Steps.{Stepped, first_state, stepping, state_after}
 use Rattle.tune_text.specs.Carried.{Carried}
 use Rattle.tune_text.specs.declared.Progress.{Progress}
 use Rattle.tune_text.specs.declared.Request.{Request}
 use Rattle.tune_text.specs.declared.Stage.{Stage}
 use Rattle.tune_text.specs.declared.Stage.TheVariants.{Head, Axes, Costs, Done}
 use Rattle.tune_text.specs.declared.State.{State}
-use Rattle.tune_text.specs.declared.Stepped.{Stepped}
+use Rattle.tune_text.proofs.Laws.Ending.{end_unread, end_shown}
 use Rattle.tune_text.proofs.Laws.Running.{step_cases}
 
 -- ---- the steps
@@ -50,11 +51,11 @@ Kept p = p.stage ≡ Costs → Carried p
 
 -- no costs are read once all is done
 done_kept : (q : Request) (s : Search) → Kept (record { stage = Done; request = q; search = s })
-done_kept q s e = let z : ◌≡◌ {A = ℕ} 0 1 = cc in absurd (omega arith)
+done_kept q s e = let none : ⊥ = cc in absurd none
 
 -- no costs are read where an axis line follows
 axes_kept : (k : ℕ) (q : Request) (s : Search) → Kept (record { stage = Axes k; request = q; search = s })
-axes_kept k q s e = let z : ◌≡◌ {A = ℕ} 0 1 = cc in absurd (omega arith)
+axes_kept k q s e = let none : ⊥ = cc in absurd none
 
 -- the opening makes its search by no call
 opening_turn_kept : (q : Request) → Kept (opening_turn q).progress
@@ -62,8 +63,8 @@ unfolding after
 opening_turn_kept q = go (opening_of q).verdict refl
   where
     go : (v : Verdict) → (opening_of q).verdict ≡ v → Kept (turn_opened v q (opening_of q).search).progress
-    go Accepted e c = record { accepted = e; calls = []; made = refl }
-    go (Refused r) e c = done_kept q (opening_of q).search c
+    go (Ok _) e c = record { accepted = e; calls = []; made = refl }
+    go (Err r) e c = done_kept q (opening_of q).search c
 
 -- `Kept` holds after k axis lines, where the next axis line follows or the opening
 axes_read_kept : (k : ℕ) (q : Request) (s : Search) → Kept (axes_read k q s).progress
@@ -74,19 +75,21 @@ axes_read_kept k q s =
 -- a cost line is one call more
 told_kept : (p : Progress) (cost : ℕ) → Carried p → Kept (cost_told p cost).progress
 unfolding cost_told
-told_kept p cost c = go (answer_of p cost).verdict
+told_kept p cost c = go (asking p.search)
   where
-    asked : Call
-    asked = tell (asking p.search).number cost
-
-    go : (v : Verdict) → Kept (turn_told v p (asking p.search) (answer_of p cost).search cost).progress
-    go Accepted e =
+    told : (a : Asked) (v : Verdict) → (telling p.search a.number cost).verdict ≡ v → Kept (turn_told v p a (telling p.search a.number cost).search cost).progress
+    told a (Ok _) d e =
+        let call = tell a.number cost in
         record {
           accepted = c.accepted;
-          calls = c.calls ++ asked ∷ [];
-          made = ap (λ (s : Search). after1 s asked) c.made ∙ sym (after_snoc (opening_of p.request).search c.calls asked);
+          calls = c.calls ++ call ∷ [];
+          made = ap (λ (s : Search). after1 s call) c.made ∙ sym (after_snoc (opening_of p.request).search c.calls call);
         }
-    go (Refused r) e = done_kept p.request p.search e
+    told a (Err r) d e = done_kept p.request p.search e
+
+    go : (r : Result Asked Refusal) → Kept (turn_asked r p cost).progress
+    go (Ok a) e = told a (telling p.search a.number cost).verdict refl e
+    go (Err r) e = done_kept p.request p.search e
 
 -- `Kept` holds after a line where it held before, by the stage
 line_kept : (stage : Stage) (p : Progress) (i : ℕ) (line : List ℕ) → p.stage ≡ stage → Kept p → Kept (line_read stage p i line).progress
@@ -118,15 +121,15 @@ run_kept (suc k) bytes s h = run_kept k bytes (stepping bytes s).state (step_kep
 -- after any number of steps, where costs are read, an accepted opening and calls have made the search
 pub carried : (bytes : List ℕ) (k : ℕ) → (state_after k bytes first_state).progress.stage ≡ Costs → Carried (state_after k bytes first_state).progress
 unfolding first_state nothing_read
-carried bytes k = run_kept k bytes first_state (λ e. let z : ◌≡◌ {A = ℕ} 0 1 = cc in absurd (omega arith))
+carried bytes k = run_kept k bytes first_state (λ e. let none : ⊥ = cc in absurd none)
 
 -- ---- the search
 
--- on a search neither damaged nor ended, a tell with the number that ask gives is refused only for a cost above the largest
+-- on a search neither damaged nor ended, a tell with the next number is refused only for a cost above the largest
 tell_next : (s : Search) → undamaged s ≡ true → is_ended s.phase ≡ false → (cost : ℕ)
-    → (telling s (asking s).number cost).verdict ≡ check (leb cost max_cost) CostTooHigh Accepted
-unfolding asking ask_verdict telling tell_verdict
-tell_next s h live cost = rw (h, live, eq-eqb (s.readings + 1) (s.readings + 1) refl) (told_verdict (check (leb cost max_cost) CostTooHigh Accepted) s cost)
+    → (telling s (s.readings + 1) cost).verdict ≡ check (leb cost max_cost) CostTooHigh (Ok tt)
+unfolding telling tell_verdict
+tell_next s h live cost = rw (h, live, eq-eqb (s.readings + 1) (s.readings + 1) refl) (told_verdict (check (leb cost max_cost) CostTooHigh (Ok tt)) s cost)
 
 module _ (p : Progress) (c : Carried p) where
   -- the search as opened
@@ -140,35 +143,32 @@ module _ (p : Progress) (c : Carried p) where
   -- the rules' claim holds of the search that is carried
   pub claimed : Claims begun costs p.search
   claimed =
-      rw c.made (claim p.request.n p.request.axes (Named (Spread p.request.spread)) usual p.request.budget c.accepted c.calls)
+      rw c.made (claim p.request.n p.request.axes (Some (Spread p.request.spread)) usual p.request.budget c.accepted c.calls)
 
   -- the search that is carried is not damaged
   sound : undamaged p.search ≡ true
   sound =
       rw c.made
-      (sound_always p.request.n p.request.axes (Named (Spread p.request.spread)) usual p.request.budget c.accepted c.calls)
+      (sound_always p.request.n p.request.axes (Some (Spread p.request.spread)) usual p.request.budget c.accepted c.calls)
 
   -- a cost line is refused only as 9, for a cost above the largest
-  pub only_too_high : is_ended p.search.phase ≡ false → (cost : ℕ) → (answer_of p cost).verdict ≡ check (leb cost max_cost) CostTooHigh Accepted
-  only_too_high live cost = tell_next p.search sound live cost
+  pub only_too_high : is_ended p.search.phase ≡ false
+      → (a : Asked) × (asking p.search ≡ Ok a) × ((cost : ℕ) → (telling p.search a.number cost).verdict ≡ check (leb cost max_cost) CostTooHigh (Ok tt))
+  only_too_high live =
+      let a : Asked = record { number = length costs + 1; point = trial (run begun costs) } in
+      let due : length costs + 1 ≡ p.search.readings + 1 = ap (λ (m : ℕ). m + 1) (sym claimed.readings) in
+      (a, claimed.asks live, λ cost. rw due (tell_next p.search sound live cost))
 
-  -- the last line of a search is never a refusal
+  -- the last line of a search is never a refusal: without a reading it has no point, else the best that is shown
   pub best_shown :
-      search_end p.search
-      ≡ cond (eqb p.search.readings 0) (end_line (ending_of p.search.phase))
-      (best_line (ending_of p.search.phase) p.search.setup.n (showing p.search).reading.point (showing p.search).reading.cost)
-  unfolding search_end
-  best_shown = go (eqb p.search.readings 0) refl
-    where
-      some : eqb p.search.readings 0 ≡ false → 0 < length costs
-      some e = omega (arith, eqb-false p.search.readings 0 e, claimed.readings)
-
-      go : (b : Bool) → eqb p.search.readings 0 ≡ b
-          → cond b (end_line (ending_of p.search.phase)) (best_by (showing p.search).verdict p.search (showing p.search))
-          ≡ cond b (end_line (ending_of p.search.phase))
-          (best_line (ending_of p.search.phase) p.search.setup.n (showing p.search).reading.point (showing p.search).reading.cost)
-      go true e = refl
-      go false e = rw (claimed.best (some e)).2
+      (p.search.readings ≡ 0 → search_end p.search ≡ end_line (ending_of p.search.phase))
+      × ((p.search.readings ≡ 0 → ⊥) → (v : Vertex) × (showing p.search ≡ Ok v) × (search_end p.search ≡ best_line (ending_of p.search.phase) p.search.setup.n v.point v.cost))
+  best_shown = (
+    end_unread p.search,
+    λ h.
+        let b = claimed.best (omega (arith, claimed.readings)) in
+        (reading begun costs b.0, b.2, end_shown p.search (reading begun costs b.0) h b.2),
+  )
 
 -- ---- the opening
 
@@ -178,7 +178,7 @@ OfOpening r = (1 ≤ number_of r) × (number_of r ≤ 7) × (number_of r ≡ 5 �
 
 -- where a verdict is a refusal, its number is from 1 to 7 and not 5
 abbrev AtOpening : Verdict → Type 0
-AtOpening v = (r : Refusal) → v ≡ Refused r → OfOpening r
+AtOpening v = (r : Refusal) → v ≡ Err r → OfOpening r
 
 -- a check whose refusal is `OfOpening`, before checks whose verdict is `AtOpening`, gives a verdict that is `AtOpening`
 check_so : (b : Bool) (r : Refusal) {v : Verdict} → OfOpening r → AtOpening v → AtOpening (check b r v)
@@ -199,10 +199,10 @@ unfolding floats
 usual_pass = refl
 
 -- the opening that the lines ask for is refused only as 1, 2, 3, 4, 6 or 7
-pub opening_refusals : (q : Request) (r : Refusal) → (opening_of q).verdict ≡ Refused r → OfOpening r
+pub opening_refusals : (q : Request) (r : Refusal) → (opening_of q).verdict ≡ Err r → OfOpening r
 unfolding opening open_verdict
 opening_refusals q =
-    let last : AtOpening Accepted = λ r e. let z : ◌≡◌ {A = ℕ} 0 1 = cc in absurd (omega arith) in
+    let last : AtOpening (Ok tt) = λ r e. let none : ⊥ = cc in absurd none in
     let budget = check_so (leb (q.n + 1) q.budget && leb q.budget 1000000) BadBudget (omega arith, omega arith, λ e. omega arith) last in
     let threshold = check_so (in_threshold (Spread q.spread)) BadThreshold (omega arith, omega arith, λ e. omega arith) budget in
     let coefficients = check_elim AtOpening (in_coefficients usual) {r = BadCoefficient} (λ e. threshold) (λ e. absurd (true≢false (sym usual_pass ∙ e))) in
@@ -210,5 +210,5 @@ opening_refusals q =
     rw opened_by_verdict (check_so (leb 1 q.n && leb q.n 8) AxisCount (omega arith, omega arith, λ e. omega arith) axes)
 
 -- the opening that the lines ask for is never refused as 5, for a coefficient
-pub no_coefficient : (q : Request) (r : Refusal) → (opening_of q).verdict ≡ Refused r → number_of r ≡ 5 → ⊥
+pub no_coefficient : (q : Request) (r : Refusal) → (opening_of q).verdict ≡ Err r → number_of r ≡ 5 → ⊥
 no_coefficient q r e = (opening_refusals q r e).2

@@ -15,13 +15,10 @@ use Rattle.tune_text.specs.Fields.{newline, cut}
 use Rattle.tune_text.specs.Lines.{bad_line}
 use Rattle.tune_text.specs.Reading.{Turned, nothing_read, line_read, last_line, is_over, is_done}
 use Rattle.tune_text.specs.Transcript.{longest, stopped, lines_from, transcript}
-use Rattle.tune_text.specs.Steps.{first_state, line_after, last_step, passed, stepping, state_after, printed, steps_left}
-use Rattle.tune_text.specs.Handed.{written}
+use Rattle.tune_text.specs.Steps.{Stepped, first_state, line_after, last_step, passed, stepping, state_after, printed, steps_left}
 use Rattle.tune_text.specs.declared.Progress.{Progress}
 use Rattle.tune_text.specs.declared.State.{State}
-use Rattle.tune_text.specs.declared.Stepped.{Stepped}
 use Rattle.tune_text.proofs.Laws.Cutting.{cut_line, cut_last, cut_some}
-use Rattle.tune_text.proofs.Laws.Writing.{written_text}
 use Rattle.tune_text.proofs.Laws.Running.{step_cases, some_left, few_left, left_done, left_less, printed_done, printed_join}
 
 -- ---- the end
@@ -70,8 +67,8 @@ from_last p i line d o = rw (d, o)
 -- ---- the steps from any state
 
 -- a step that prints a last line is the last that prints
-alone : (k : ℕ) (bytes : List ℕ) (s : State) (line : List ℕ) → written (last_step s line).text ++ printed k bytes (last_step s line).state ≡ line
-alone k bytes s line = rw (written_text line, printed_done k bytes (last_step s line).state refl, append-nil)
+alone : (k : ℕ) (bytes : List ℕ) (s : State) (line : List ℕ) → line ++ printed k bytes (last_step s line).state ≡ line
+alone k bytes s line = rw (printed_done k bytes (last_step s line).state refl, append-nil)
 
 -- the line after a line of an input that is read
 line_after_lem : (i : ℕ) → i ≤ longest → line_after i ≡ suc i
@@ -94,7 +91,7 @@ rest (suc k) bytes s f g h =
     let line : List ℕ = take j left in
     let t : Turned = line_read s.progress.stage s.progress s.line line in
     let lines : List (List ℕ) = cut newline left in
-    step_cases bytes s (λ (r : Stepped). written r.text ++ printed k bytes r.state ≡ lines_from s.progress s.line lines)
+    step_cases bytes s (λ (r : Stepped). r.line ++ printed k bytes r.state ≡ lines_from s.progress s.line lines)
     (λ d. rw (printed_done k bytes s d, from_done s.progress s.line lines d))
     (λ d l. absurd (omega arith))
     (λ d l o.
@@ -103,7 +100,7 @@ rest (suc k) bytes s f g h =
     let fewer : j < length bytes - s.position = rw length-drop at e in
     let more : line_after s.line ≡ suc s.line = line_after_lem s.line (omega arith) in
     let few = few_left bytes (passed s j t).state in
-    rw (written_text t.line, rest k bytes (passed s j t).state f (rw more (omega arith)) (omega (arith, some_left bytes s d)), more)
+    rw (rest k bytes (passed s j t).state f (rw more (omega arith)) (omega (arith, some_left bytes s d)), more)
     (rw (cut_line newline left e, from_line s.progress s.line line (cut newline (drop (suc j) left)) (cut_some newline (drop (suc j) left)) d o, left_after s.position j bytes)))
     (λ d l o e. rw (cut_last newline left e, from_last s.progress s.line left d o) (alone k bytes s (stopped s.progress s.line left)))
 
@@ -111,7 +108,7 @@ rest (suc k) bytes s f g h =
 long : (k : ℕ) (bytes : List ℕ) (s : State) → is_done s.progress.stage ≡ false → longest < length bytes → printed (suc k) bytes s ≡ bad_line 0
 unfolding printed
 long k bytes s d h =
-    step_cases bytes s (λ (r : Stepped). written r.text ++ printed k bytes r.state ≡ bad_line 0)
+    step_cases bytes s (λ (r : Stepped). r.line ++ printed k bytes r.state ≡ bad_line 0)
     (λ e. absurd (true≢false (sym e ∙ d)))
     (λ e l. alone k bytes s (bad_line 0))
     (λ e l. absurd (omega arith))

@@ -1,6 +1,8 @@
 -- "The program", the lines of the input: how a text is cut into lines and a line into fields, and what number a field is.
-use Rattle.std.specs.Prelude.{Bool, true, cond, ◌&&◌, List, [], ◌∷◌, map, ℕ, ◌+◌, ◌*◌, length, leb, ltb, eqb}
-use Rattle.numerals.specs.Digits.{digit_of}
+use Rattle.std.specs.Prelude.{Bool, ◌&&◌, List, map, ℕ, length, leb, eqb}
+use Rattle.std.specs.List.{list_all, slice_split}
+use Rattle.numerals.specs.Digits.{all_digits, value}
+use Rattle.tune_text.specs.declared.fields.Form.{Form}
 
 -- the byte that "ends every line"
 abbrev pub newline : ℕ
@@ -10,33 +12,11 @@ newline = 10
 abbrev pub space : ℕ
 space = 32
 
--- the byte x put in front of the first piece of a cut text
-abbrev pub onto : ℕ → List (List ℕ) → List (List ℕ)
-onto x [] = (x ∷ []) ∷ []
-onto x (p ∷ ps) = (x ∷ p) ∷ ps
-
 -- a text cut at each byte b: the pieces before it and the piece after the last; a text without b is one piece
 unfoldable pub cut : ℕ → List ℕ → List (List ℕ)
-cut b [] = [] ∷ []
-cut b (x ∷ xs) = cond (eqb x b) ([] ∷ cut b xs) (onto x (cut b xs))
+cut b xs = slice_split (λ x. eqb x b) xs
 
--- every byte of a field is a digit in this base
-unfoldable pub all_digits : ℕ → List ℕ → Bool
-all_digits base [] = true
-all_digits base (x ∷ xs) = ltb (digit_of x) base && all_digits base xs
-
--- the number of a field's digits in this base, v being the number of the digits before them
-unfoldable pub value : ℕ → ℕ → List ℕ → ℕ
-value base v [] = v
-value base v (x ∷ xs) = value base (v * base + digit_of x) xs
-
--- the form of a field's number: its base, and how few and how many digits it may have
-pub record Form : Type 0 where
-  pub base : ℕ
-  pub least : ℕ
-  pub most : ℕ
-
--- a form by its three numbers
+-- the form of a field's number, by its base, and how few and how many digits it may have
 abbrev pub form : ℕ → ℕ → ℕ → Form
 form base least most = record { base = base; least = least; most = most }
 
@@ -52,14 +32,9 @@ hexadecimal = form 16 16 16
 abbrev pub is_number : Form → List ℕ → Bool
 is_number f xs = leb f.least (length xs) && leb (length xs) f.most && all_digits f.base xs
 
--- every field has the form f
-unfoldable pub all_numbers : Form → List (List ℕ) → Bool
-all_numbers f [] = true
-all_numbers f (xs ∷ xss) = is_number f xs && all_numbers f xss
-
 -- a line of k fields of the form f; "a line of any other form is malformed"
 unfoldable pub is_line : Form → ℕ → List ℕ → Bool
-is_line f k line = eqb (length (cut space line)) k && all_numbers f (cut space line)
+is_line f k line = eqb (length (cut space line)) k && list_all (is_number f) (cut space line)
 
 -- the number of a field
 abbrev pub field_value : Form → List ℕ → ℕ

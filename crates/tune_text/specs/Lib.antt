@@ -5,7 +5,7 @@ pub mod Fields
 pub mod Lines
 pub mod Reading
 pub mod Transcript
-pub mod Handed
 pub mod Steps
+pub mod Handed
 pub mod Carried
 pub mod Worked

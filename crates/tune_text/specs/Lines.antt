@@ -1,5 +1,5 @@
--- "The program", the lines of the output, each by its bytes.
-use Rattle.std.specs.Prelude.{cond, List, [], ◌∷◌, ◌++◌, ℕ, zero, suc, min, get_or, eqb, Float}
+-- "The program", the lines of the output, each by its bytes. A whole number stands in decimal, as std's `decimal` has it.
+use Rattle.std.specs.Prelude.{List, [], ◌∷◌, ◌++◌, ℕ, zero, suc, min, get_or, decimal, Float, Option, Some, None}
 use Rattle.std.specs.Float.{binary64, nan}
 use Rattle.std.specs.Float.Ieee.{to_bits}
 use Rattle.io.specs.Digits.{last_digits}
@@ -7,18 +7,6 @@ use Rattle.rules.specs.declared.Cause.{Cause}
 use Rattle.rules.specs.declared.Cause.TheVariants.{Settled, Budget}
 use Rattle.tune_text.specs.Ascii.{bytes}
 use Rattle.tune_text.specs.Fields.{newline, space}
-use Rattle.tune_text.specs.declared.Ending.{Ending}
-use Rattle.tune_text.specs.declared.Ending.TheVariants.{Waiting, Because}
-
--- digits without the zeros in front of them, but for the last digit
-unfoldable pub trim : List ℕ → List ℕ
-trim [] = []
-trim (x ∷ []) = x ∷ []
-trim (x ∷ (y ∷ ys)) = cond (eqb x 48) (trim (y ∷ ys)) (x ∷ (y ∷ ys))
-
--- a whole number in decimal; twenty digits hold every number that the program has
-unfoldable pub decimal : ℕ → List ℕ
-decimal n = trim (last_digits 10 20 n)
 
 -- a coordinate: "the 16 hexadecimal digits" of its bits, after a space
 abbrev pub spaced_bits : Float → List ℕ
@@ -42,22 +30,22 @@ abbrev pub cause_word : Cause → List ℕ
 cause_word Settled = bytes "settled"
 cause_word Budget = bytes "budget"
 
--- the word of an ending: `waiting`, or that of its cause
-abbrev pub word : Ending → List ℕ
-word Waiting = bytes "waiting"
-word (Because c) = cause_word c
+-- the word of a last line: that of the cause, or `waiting` where there is none
+abbrev pub word : Option Cause → List ℕ
+word None = bytes "waiting"
+word (Some c) = cause_word c
 
 -- `end `, the cause
-abbrev pub end_and : Ending → List ℕ
-end_and e = bytes "end " ++ word e
+abbrev pub end_and : Option Cause → List ℕ
+end_and c = bytes "end " ++ word c
 
 -- "last `end`, the cause, best point and cost"
-abbrev pub best_line : Ending → ℕ → List Float → ℕ → List ℕ
-best_line e n x cost = end_and e ++ point_and_cost n x cost
+abbrev pub best_line : Option Cause → ℕ → List Float → ℕ → List ℕ
+best_line c n x cost = end_and c ++ point_and_cost n x cost
 
 -- the last line "without point and cost if no reading was accepted"
-abbrev pub end_line : Ending → List ℕ
-end_line e = end_and e ++ (newline ∷ [])
+abbrev pub end_line : Option Cause → List ℕ
+end_line c = end_and c ++ (newline ∷ [])
 
 -- a word and a whole number
 abbrev pub numbered_line : List ℕ → ℕ → List ℕ

@@ -1,27 +1,23 @@
 -- "The program", what a line does: the line of n, budget and spread E, the axis lines, the costs, and the end.
-use Rattle.std.specs.Prelude.{Bool, true, false, cond, ◌&&◌, List, [], ℕ, suc, get_or, replicate, set, leb, ltb, eqb}
+use Rattle.std.specs.Prelude.{Bool, true, false, cond, ◌&&◌, List, [], ℕ, suc, get_or, replicate, set, leb, ltb, eqb, Option, Some, None, Result, Ok, Err}
 use Rattle.std.specs.Float.{binary64}
 use Rattle.std.specs.Float.Ieee.{of_bits}
 use Rattle.rules.specs.Numbers.{usual}
-use Rattle.rules.specs.Refusals.{number_of}
+use Rattle.rules.specs.Refusals.{Verdict, number_of}
 use Rattle.rules.specs.Opening.{zero_axis, closed, opening}
 use Rattle.rules.specs.Calls.{asking, telling, showing, is_ended}
 use Rattle.rules.specs.declared.Axis.{Axis}
 use Rattle.rules.specs.declared.Asked.{Asked}
-use Rattle.rules.specs.declared.Told.{Told}
-use Rattle.rules.specs.declared.Shown.{Shown}
+use Rattle.rules.specs.declared.Cause.{Cause}
+use Rattle.rules.specs.declared.Refusal.{Refusal}
+use Rattle.rules.specs.declared.Vertex.{Vertex}
 use Rattle.rules.specs.declared.Opened.{Opened}
 use Rattle.rules.specs.declared.Phase.{Phase}
-use Rattle.rules.specs.declared.Phase.TheVariants.{Building, Reflecting, Expanding, Contracting, Shrinking, Probing, Ended}
+use Rattle.rules.specs.declared.Phase.TheVariants.{Ended}
 use Rattle.rules.specs.declared.Rule.TheVariants.{Spread}
-use Rattle.rules.specs.declared.RuleChoice.TheVariants.{Named}
 use Rattle.rules.specs.declared.Search.{Search}
-use Rattle.rules.specs.declared.Verdict.{Verdict}
-use Rattle.rules.specs.declared.Verdict.TheVariants.{Accepted, Refused}
 use Rattle.tune_text.specs.Fields.{whole_number, hexadecimal, is_line, values}
 use Rattle.tune_text.specs.Lines.{reading_line, best_line, end_line, refused_line, bad_line}
-use Rattle.tune_text.specs.declared.Ending.{Ending}
-use Rattle.tune_text.specs.declared.Ending.TheVariants.{Waiting, Because}
 use Rattle.tune_text.specs.declared.Stage.{Stage}
 use Rattle.tune_text.specs.declared.Stage.TheVariants.{Head, Axes, Costs, Done}
 use Rattle.tune_text.specs.declared.Request.{Request}
@@ -46,12 +42,12 @@ nothing_read = record { stage = Head; request = record { n = 0; budget = 0; spre
 
 -- the opening that the lines ask for: "a line with n, budget and spread E (coefficients are the usual ones)"
 abbrev pub opening_of : Request → Opened
-opening_of q = opening q.n q.axes (Named (Spread q.spread)) usual q.budget
+opening_of q = opening q.n q.axes (Some (Spread q.spread)) usual q.budget
 
 -- the turn of an opening with this verdict: costs follow an accepted one; a refused one is printed and ends
 abbrev pub turn_opened : Verdict → Request → Search → Turned
-turn_opened Accepted q s = record { progress = record { stage = Costs; request = q; search = s }; line = [] }
-turn_opened (Refused r) q s = record { progress = record { stage = Done; request = q; search = s }; line = refused_line (number_of r) }
+turn_opened (Ok _) q s = record { progress = record { stage = Costs; request = q; search = s }; line = [] }
+turn_opened (Err r) q s = record { progress = record { stage = Done; request = q; search = s }; line = refused_line (number_of r) }
 
 -- the turn of the opening that the lines ask for, called once
 abbrev pub opening_turn : Request → Turned
@@ -87,19 +83,20 @@ with_axis k a q = record { n = q.n; budget = q.budget; spread = q.spread; axes =
 
 -- the turn of a tell with this verdict: "per accepted reading, its number, the point's n coordinates and the cost"
 abbrev pub turn_told : Verdict → Progress → Asked → Search → ℕ → Turned
-turn_told Accepted p a s cost = record {
+turn_told (Ok _) p a s cost = record {
   progress = record { stage = Costs; request = p.request; search = s };
   line = reading_line a.number p.search.setup.n a.point cost;
 }
-turn_told (Refused r) p a s cost = last_turn p (refused_line (number_of r))
+turn_told (Err r) p a s cost = last_turn p (refused_line (number_of r))
 
--- the answer of tell to a cost for the trial that is asked
-abbrev pub answer_of : Progress → ℕ → Told
-answer_of p cost = telling p.search (asking p.search).number cost
+-- the turn of a cost by what ask answers: the cost is told for its trial
+abbrev pub turn_asked : Result Asked Refusal → Progress → ℕ → Turned
+turn_asked (Ok a) p cost = turn_told (telling p.search a.number cost).verdict p a (telling p.search a.number cost).search cost
+turn_asked (Err r) p cost = last_turn p (refused_line (number_of r))
 
 -- the turn of a cost line, whose cost is told
 unfoldable pub cost_told : Progress → ℕ → Turned
-cost_told p cost = turn_told (answer_of p cost).verdict p (asking p.search) (answer_of p cost).search cost
+cost_told p cost = turn_asked (asking p.search) p cost
 
 -- the turn of line i, by the stage
 unfoldable pub line_read : Stage → Progress → ℕ → List ℕ → Turned
@@ -108,42 +105,33 @@ line_read (Axes k) p i line = cond (is_line hexadecimal 4 line) (axes_read (suc 
 line_read Costs p i line = cond (is_line whole_number 1 line) (cost_told p (get_or (values whole_number line) 0 0)) (last_turn p (bad_line i))
 line_read Done p i line = record { progress = p; line = [] }
 
--- the cause; `waiting` where the search has not ended
-abbrev pub ending_of : Phase → Ending
-ending_of (Building i) = Waiting
-ending_of Reflecting = Waiting
-ending_of (Expanding f) = Waiting
-ending_of (Contracting side f) = Waiting
-ending_of (Shrinking j) = Waiting
-ending_of (Probing k) = Waiting
-ending_of (Ended c) = Because c
+-- the cause; none where the search has not ended
+abbrev pub ending_of : Phase → Option Cause
+ending_of (Ended c) = Some c
+ending_of _ = None
 
 -- the best point and cost, where a reading was accepted
-abbrev pub best_by : Verdict → Search → Shown → List ℕ
-best_by Accepted s b = best_line (ending_of s.phase) s.setup.n b.reading.point b.reading.cost
-best_by (Refused r) s b = refused_line (number_of r)
+abbrev pub best_by : Result Vertex Refusal → Search → List ℕ
+best_by (Ok v) s = best_line (ending_of s.phase) s.setup.n v.point v.cost
+best_by (Err r) s = refused_line (number_of r)
 
 -- the last line of a search
 unfoldable pub search_end : Search → List ℕ
-search_end s = cond (eqb s.readings 0) (end_line (ending_of s.phase)) (best_by (showing s).verdict s (showing s))
+search_end s = cond (eqb s.readings 0) (end_line (ending_of s.phase)) (best_by (showing s) s)
 
 -- the last line, by the stage: before the costs it is `end waiting`, "even before the last axis line"
 unfoldable pub last_line : Stage → Search → List ℕ
-last_line Head s = end_line Waiting
-last_line (Axes k) s = end_line Waiting
+last_line Head s = end_line None
+last_line (Axes k) s = end_line None
 last_line Costs s = search_end s
 last_line Done s = []
 
 -- the search has ended: "Costs after an ending are unread"
 abbrev pub is_over : Stage → Search → Bool
-is_over Head s = false
-is_over (Axes k) s = false
 is_over Costs s = is_ended s.phase
-is_over Done s = false
+is_over _ s = false
 
 -- nothing more is read or printed
 abbrev pub is_done : Stage → Bool
-is_done Head = false
-is_done (Axes k) = false
-is_done Costs = false
 is_done Done = true
+is_done _ = false

@@ -5,12 +5,8 @@ use Rattle.tune_text.specs.Fields.{newline}
 use Rattle.tune_text.specs.Lines.{bad_line}
 use Rattle.tune_text.specs.Reading.{Turned, nothing_read, at, line_read, last_line, is_over, is_done}
 use Rattle.tune_text.specs.Transcript.{longest, stopped}
-use Rattle.tune_text.specs.Handed.{text_of, written}
 use Rattle.tune_text.specs.declared.Stage.TheVariants.{Done}
 use Rattle.tune_text.specs.declared.State.{State}
-use Rattle.tune_text.specs.declared.Text.{Text}
-use Rattle.tune_text.specs.declared.Stepped.{Stepped}
-use Rattle.tune_text.specs.declared.Filled.{Filled}
 
 -- the first state: before line 1
 unfoldable pub first_state : State
@@ -20,17 +16,18 @@ first_state = record { position = 0; line = 1; progress = nothing_read }
 abbrev pub line_after : ℕ → ℕ
 line_after i = cond (leb i longest) (i + 1) i
 
--- the step that prints this text, after which all is done
-abbrev pub last_step_with : State → Text → Stepped
-last_step_with s text = record { state = record { position = s.position; line = s.line; progress = at Done s.progress }; text = text }
+-- what a step does: the state after it, and the line that it prints, [] for none
+pub record Stepped : Type 0 where
+  pub state : State
+  pub line : List ℕ
 
 -- the step that prints this line, after which all is done
 abbrev pub last_step : State → List ℕ → Stepped
-last_step s line = last_step_with s (text_of line)
+last_step s line = record { state = record { position = s.position; line = s.line; progress = at Done s.progress }; line = line }
 
 -- the step that has read a whole line of k bytes and done its turn
 abbrev pub passed : State → ℕ → Turned → Stepped
-passed s k t = record { state = record { position = s.position + k + 1; line = line_after s.line; progress = t.progress }; text = text_of t.line }
+passed s k t = record { state = record { position = s.position + k + 1; line = line_after s.line; progress = t.progress }; line = t.line }
 
 -- a step on what is left of the input: the bytes before its first newline are a line
 unfoldable pub line_step : State → List ℕ → Stepped
@@ -42,7 +39,7 @@ line_step s left =
 -- a step: nothing where all is done, `bad 0` for a long input, the last line of a search that has ended, else a line
 unfoldable pub stepping : List ℕ → State → Stepped
 stepping bytes s =
-    cond (is_done s.progress.stage) (record { state = s; text = text_of [] })
+    cond (is_done s.progress.stage) (record { state = s; line = [] })
     (cond (leb (length bytes) longest)
     (cond (is_over s.progress.stage s.progress.search)
     (last_step s (last_line s.progress.stage s.progress.search))
@@ -57,17 +54,17 @@ state_after (suc k) bytes s = state_after k bytes (stepping bytes s).state
 -- the lines of k steps, put together
 unfoldable pub printed : ℕ → List ℕ → State → List ℕ
 printed zero bytes s = []
-printed (suc k) bytes s = written (stepping bytes s).text ++ printed k bytes (stepping bytes s).state
+printed (suc k) bytes s = (stepping bytes s).line ++ printed k bytes (stepping bytes s).state
 
 -- a bound on the steps that are left, which falls with each step
 abbrev pub steps_left : List ℕ → State → ℕ
 steps_left bytes s = cond (is_done s.progress.stage) 0 (suc (length bytes - s.position))
 
--- what filling a buffer gives: the lines of so many steps stand at its start, and the state is the one after them; where something
--- was left to do and the buffer has room for a line, less is left
-pub record Fills (bytes : List ℕ) (s : State) (buffer : List ℕ) (r : Filled) : Type 0 where
+-- what filling a buffer gives: the lines of so many steps stand at its start, in count bytes, and t is the state after them; where
+-- something was left to do and the buffer has room for a line, less is left
+pub record Fills (bytes : List ℕ) (s : State) (buffer : List ℕ) (t : State) (count : ℕ) : Type 0 where
   pub steps : ℕ
-  pub lines : take r.count buffer ≡ printed steps bytes s
-  pub state : r.state ≡ state_after steps bytes s
-  pub within : r.count ≤ length buffer
-  pub onward : is_done s.progress.stage ≡ false → 192 ≤ length buffer → steps_left bytes r.state < steps_left bytes s
+  pub lines : take count buffer ≡ printed steps bytes s
+  pub state : t ≡ state_after steps bytes s
+  pub within : count ≤ length buffer
+  pub onward : is_done s.progress.stage ≡ false → 192 ≤ length buffer → steps_left bytes t < steps_left bytes s

@@ -1,75 +1,68 @@
 // The numbers of a line.
 ghost use Rattle.std.specs.Prelude.{◌≡◌, ◌^◌, ◌≤◌, ◌<◌};
-ghost use Rattle.tune_text.specs.Fields.{form, whole_number, hexadecimal};
+ghost use Rattle.tune_text.specs.Fields.{whole_number, hexadecimal};
 ghost use Rattle.tune_text.specs.Handed.{number_read, numbers_read};
 
-use super::scan;
-use crate::{Number, Numbers};
-use numerals::digit;
+use numerals::from_digits;
 
-// The number that a field is, of least to most digits in this base.
-fn read_number(field: &[u8], base: u64, least: usize, most: usize) -> Number
-    requires { (1 < base) × (base ≤ 16) × (base ^ most ≤ 2 ^ 64) }
-    ensures { result ≡ number_read (form base least most) field.now }
-{
-    let malformed = Number {
-        well: false,
-        value: 0,
-    };
-    if field.len() < least || field.len() > most {
-        return malformed;
-    }
-    let mut value = 0;
-    let mut i = 0;
-    while i < field.len() {
-        let d = digit(field[i]);
-        if d >= base {
-            return malformed;
-        }
-        value = value * base + d;
-        i += 1;
-    }
-    Number { well: true, value }
+// The form of a field's number: its base, and how few and how many digits it may have.
+#[derive(Clone, Copy)]
+struct Form {
+    base: u64,
+    least: usize,
+    most: usize,
 }
 
-// The numbers of a line that has k fields of least to most digits in this base, with one space between fields.
-fn read_numbers(line: &[u8], base: u64, least: usize, most: usize, k: usize) -> Numbers
-    requires lt_base { (1 < base) × (base ≤ 16) × (base ^ most ≤ 2 ^ 64) }
-    requires k_nonzero { (0 < k) × (k ≤ 4) }
-    ensures { result ≡ numbers_read (form base least most) k line.now }
+// Of 1 to 10 decimal digits.
+const WHOLE_NUMBER: Form = Form {
+    base: 10,
+    least: 1,
+    most: 10,
+};
+
+// A float by the 16 hexadecimal digits of its bits.
+const HEXADECIMAL: Form = Form {
+    base: 16,
+    least: 16,
+    most: 16,
+};
+
+// The number that a field of this form is.
+fn read_number(field: &[u8], form: Form) -> Option<u64>
+    requires { (1 < form.base) × (form.base ≤ 16) × (form.base ^ form.most ≤ 2 ^ 64) }
+    ensures { result ≡ number_read form field.now }
 {
-    let malformed = Numbers {
-        well: false,
-        values: [0u64; 4],
-    };
-    let mut values = [0u64; 4];
-    let mut from = 0;
-    let mut i = 0;
-    while i < k {
-        let end = scan::find(line, from, line.len(), 32);
-        let number = read_number(&line[from..end], base, least, most);
-        let last = i + 1 == k;
-        if !number.well || last != (end == line.len()) {
-            return malformed;
-        }
-        values[i] = number.value;
-        from = end + 1;
-        i += 1;
+    if !(form.least..=form.most).contains(&field.len()) {
+        return None;
     }
-    Numbers { well: true, values }
+    from_digits(field, form.base)
 }
 
-// The numbers of a line of k whole numbers, of 1 to 10 decimal digits each.
-pub(super) fn whole_numbers(line: &[u8], k: usize) -> Numbers
-    requires { (0 < k) × (k ≤ 4) }
-    ensures { result ≡ numbers_read whole_number k line.now }
+// The numbers of a line that has K fields of this form, with one space between fields.
+fn read_numbers<const K: usize>(line: &[u8], form: Form) -> Option<[u64; K]>
+    requires fits { (1 < form.base) × (form.base ≤ 16) × (form.base ^ form.most ≤ 2 ^ 64) }
+    requires few { K ≤ 4 }
+    ensures { result ≡ numbers_read form K line.now }
 {
-    read_numbers(line, 10, 1, 10, k)
+    let mut numbers = [0; K];
+    let mut fields = line.split(|b| *b == b' ');
+    for number in &mut numbers {
+        *number = read_number(fields.next()?, form)?;
+    }
+    fields.next().is_none().then_some(numbers)
 }
 
-// The numbers of a line of four floats, each by the 16 hexadecimal digits of its bits.
-pub(super) fn four_floats(line: &[u8]) -> Numbers
+// The numbers of a line of K whole numbers.
+pub(super) fn whole_numbers<const K: usize>(line: &[u8]) -> Option<[u64; K]>
+    requires { K ≤ 4 }
+    ensures { result ≡ numbers_read whole_number K line.now }
+{
+    read_numbers(line, WHOLE_NUMBER)
+}
+
+// The numbers of a line of four floats, by their bits.
+pub(super) fn four_floats(line: &[u8]) -> Option<[u64; 4]>
     ensures { result ≡ numbers_read hexadecimal 4 line.now }
 {
-    read_numbers(line, 16, 16, 16, 4)
+    read_numbers(line, HEXADECIMAL)
 }

@@ -1,149 +1,136 @@
 // The lines of the output.
-ghost use Rattle.std.specs.Prelude.{◌≡◌, [], ◌∷◌, ◌++◌, ◌≤◌, min, length};
+ghost use Rattle.std.specs.Prelude.{◌≡◌, [], ◌∷◌, ◌++◌, ◌≤◌, decimal, min, length};
+ghost use Rattle.rules.specs.Refusals.{number_of};
 ghost use Rattle.tune_text.specs.Fields.{newline};
-ghost use Rattle.tune_text.specs.Lines.{decimal, spaced_bits, coordinates, numbered_line, point_and_cost, reading_line, end_and, best_line, end_line, refused_line, bad_line};
-ghost use Rattle.tune_text.specs.Handed.{text_of, written, Room};
+ghost use Rattle.tune_text.specs.Lines.{spaced_bits, coordinates, numbered_line, point_and_cost, reading_line, end_and, best_line, end_line, refused_line, bad_line};
+ghost use Rattle.tune_text.specs.Handed.{Room};
 
-use crate::{Ending, Text};
+use crate::Line;
+use itoa::Buffer;
 use numerals::bits_of;
-use rules::Cause;
-
-// A text with no line.
-pub(super) fn no_line() -> Text
-    ensures { result ≡ text_of [] }
-{
-    Text {
-        bytes: [0u8; 192],
-        count: 0,
-    }
-}
+use rules::{Cause, Refusal, Vertex};
 
 // Adds the bytes of a word to a line.
-fn put(text: Text, word: &[u8]) -> Text
-    requires { Room (length word.now) text }
-    ensures { result ≡ text_of (written text ++ word.now) }
+fn put(line: &mut Line, word: &[u8])
+    requires { Room (length word.now) line.old.items }
+    ensures { line.new.items ≡ line.old.items ++ word.now }
 {
-    let mut all = text.bytes;
-    let from = text.count;
-    let n = word.len();
-    all[from..from + n].copy_from_slice(word);
-    Text {
-        bytes: all,
-        count: from + n,
-    }
+    line.try_extend_from_slice(word).unwrap();
 }
 
 // Adds a whole number in decimal to a line.
-fn put_decimal(text: Text, n: u64) -> Text
-    requires { Room 20 text }
-    ensures { result ≡ text_of (written text ++ decimal n) }
+fn put_decimal(line: &mut Line, n: u64)
+    requires { Room 20 line.old.items }
+    ensures added { line.new.items ≡ line.old.items ++ decimal n }
+    ensures short { length (decimal n) ≤ 20 }
 {
-    let mut digits = [0u8; 20];
-    let k = io::decimal(n, &mut digits);
-    put(text, &digits[..k])
+    put(line, Buffer::new().format(n).as_bytes());
 }
 
-// Adds a coordinate by its bits, after a space.
-fn put_coordinate(text: Text, x: f64) -> Text
-    requires { Room 17 text }
-    ensures { result ≡ text_of (written text ++ spaced_bits x) }
+// Adds a coordinate by its bits, after a space. `io::hex` gives their digits: what `write!` promises leaves open whether it succeeds.
+#[tactic(auto, using(crate::proofs::Laws::Coordinates::sixteen))]
+fn put_coordinate(line: &mut Line, x: f64)
+    requires { Room 17 line.old.items }
+    ensures { line.new.items ≡ line.old.items ++ spaced_bits x }
 {
     let mut digits = [0u8; 16];
     let k = io::hex(bits_of(x), 16, &mut digits);
-    let spaced = put(text, b" ");
-    put(spaced, &digits[..k])
+    put(line, b" ");
+    put(line, &digits[..k]);
 }
 
 // Adds the first n coordinates of a point, at most eight.
-fn put_point(text: Text, n: usize, point: [f64; 8]) -> Text
-    requires { Room 136 text }
-    ensures { result ≡ text_of (written text ++ coordinates (min n 8) point) }
+#[tactic(auto, using(crate::proofs::Laws::Coordinates::coordinates_length), unfolding(crate::specs::Lines::coordinates))]
+fn put_point(line: &mut Line, n: usize, point: &[f64; 8])
+    requires { Room 136 line.old.items }
+    ensures { line.new.items ≡ line.old.items ++ coordinates (min n 8) point.now }
 {
-    let mut t = text;
-    let mut a = 0;
-    let k = if n < 8 { n } else { 8 };
-    while a < k {
-        t = put_coordinate(t, point[a]);
-        a += 1;
+    for x in &point[..n.min(8)] {
+        put_coordinate(line, *x);
     }
-    t
 }
 
 // Adds a whole number and the line's end.
-fn put_last(text: Text, n: u64) -> Text
-    requires { Room 21 text }
-    ensures { result ≡ text_of (written text ++ (decimal n ++ (newline ∷ []))) }
+fn put_last(line: &mut Line, n: u64)
+    requires { Room 21 line.old.items }
+    ensures { line.new.items ≡ line.old.items ++ (decimal n ++ (newline ∷ [])) }
 {
-    let t = put_decimal(text, n);
-    put(t, b"\n")
+    put_decimal(line, n);
+    put(line, b"\n");
 }
 
-// Adds the first n coordinates of a point, the cost and the line's end.
-fn put_point_and_cost(text: Text, n: usize, point: [f64; 8], cost: u64) -> Text
-    requires { Room 158 text }
-    ensures { result ≡ text_of (written text ++ point_and_cost n point cost) }
+// Adds the first n coordinates of a point, its cost and the line's end.
+fn put_point_and_cost(line: &mut Line, n: usize, vertex: &Vertex)
+    requires { Room 158 line.old.items }
+    ensures { line.new.items ≡ line.old.items ++ point_and_cost n vertex.now.point vertex.now.cost }
 {
-    let at_point = put_point(text, n, point);
-    let spaced = put(at_point, b" ");
-    put_last(spaced, cost)
+    put_point(line, n, &vertex.point);
+    put(line, b" ");
+    put_last(line, vertex.cost);
 }
 
 // An accepted reading: its number, its point and its cost.
-pub(super) fn reading(number: u64, n: usize, point: [f64; 8], cost: u64) -> Text
-    ensures { result ≡ text_of (reading_line number n point cost) }
+pub(super) fn reading(number: u64, n: usize, vertex: &Vertex) -> Line
+    ensures { result.items ≡ reading_line number n vertex.now.point vertex.now.cost }
 {
-    let numbered = put_decimal(no_line(), number);
-    put_point_and_cost(numbered, n, point, cost)
+    let mut line = Line::new();
+    put_decimal(&mut line, number);
+    put_point_and_cost(&mut line, n, vertex);
+    line
 }
 
-// `end` and the cause.
-fn end_and(ending: Ending) -> Text
-    ensures { result ≡ text_of (end_and ending) }
+// `end` and the cause; `waiting` where there is none.
+fn end_and(cause: Option<Cause>) -> Line
+    ensures { result.items ≡ end_and cause }
 {
-    match ending {
-        Ending::Waiting => put(no_line(), b"end waiting"),
-        Ending::Because(cause) => match cause {
-            Cause::Settled => put(no_line(), b"end settled"),
-            Cause::Budget => put(no_line(), b"end budget"),
-        },
+    let mut line = Line::new();
+    match cause {
+        None => put(&mut line, b"end waiting"),
+        Some(Cause::Settled) => put(&mut line, b"end settled"),
+        Some(Cause::Budget) => put(&mut line, b"end budget"),
     }
+    line
 }
 
 // The last line with the best point and cost.
-pub(super) fn best(ending: Ending, n: usize, point: [f64; 8], cost: u64) -> Text
-    ensures { result ≡ text_of (best_line ending n point cost) }
+pub(super) fn best(cause: Option<Cause>, n: usize, vertex: &Vertex) -> Line
+    ensures { result.items ≡ best_line cause n vertex.now.point vertex.now.cost }
 {
-    let t = end_and(ending);
-    put_point_and_cost(t, n, point, cost)
+    let mut line = end_and(cause);
+    put_point_and_cost(&mut line, n, vertex);
+    line
 }
 
 // The last line without a best point and its cost.
-pub(super) fn end(ending: Ending) -> Text
-    ensures { result ≡ text_of (end_line ending) }
+pub(super) fn end(cause: Option<Cause>) -> Line
+    ensures { result.items ≡ end_line cause }
 {
-    let t = end_and(ending);
-    put(t, b"\n")
+    let mut line = end_and(cause);
+    put(&mut line, b"\n");
+    line
 }
 
 // A word of at most eight bytes, a whole number after it and the line's end.
-fn numbered(word: &[u8], n: u64) -> Text
+fn numbered(word: &[u8], n: u64) -> Line
     requires { length word.now ≤ 8 }
-    ensures { result ≡ text_of (numbered_line word.now n) }
+    ensures { result.items ≡ numbered_line word.now n }
 {
-    let t = put(no_line(), word);
-    put_last(t, n)
+    let mut line = Line::new();
+    put(&mut line, word);
+    put_last(&mut line, n);
+    line
 }
 
 // A refusal by its number.
-pub(super) fn refused(number: u64) -> Text
-    ensures { result ≡ text_of (refused_line number) }
+pub(super) fn refused(refusal: Refusal) -> Line
+    ensures { result.items ≡ refused_line (number_of refusal) }
 {
-    numbered(b"refused ", number)
+    numbered(b"refused ", engine::refusal_number(refusal))
 }
 
 // A malformed line by its number.
-pub(super) fn bad(line: u64) -> Text
-    ensures { result ≡ text_of (bad_line line) }
+pub(super) fn bad(line: u64) -> Line
+    ensures { result.items ≡ bad_line line }
 {
     numbered(b"bad ", line)
 }

@@ -1,75 +1,23 @@
 // The opening that the first lines ask for.
-ghost use Rattle.std.specs.Prelude.{◌≡◌, replicate};
-ghost use Rattle.rules.specs.Opening.{zero_axis};
-ghost use Rattle.tune_text.specs.Reading.{axis_lines, nothing_read, opening_turn, axes_read};
+ghost use Rattle.std.specs.Prelude.{◌≡◌};
+ghost use Rattle.rules.specs.Refusals.{number_of};
+ghost use Rattle.tune_text.specs.Lines.{refused_line};
+ghost use Rattle.tune_text.specs.Reading.{axis_lines, nothing_read, opening_of, opening_turn, axes_read, last_turn};
 ghost use Rattle.tune_text.specs.Handed.{turn_of};
 
 use super::lines;
-use crate::{Progress, Request, Stage, Turn};
-use rules::{Axis, Rule, RuleChoice, Search, USUAL, Verdict};
-
-// Eight records of zeros.
-pub(super) fn no_axes() -> [Axis; 8]
-    ensures { result ≡ replicate 8 zero_axis }
-{
-    let axis = Axis {
-        lo: 0.0,
-        hi: 0.0,
-        start: 0.0,
-        step: 0.0,
-    };
-    [axis; 8]
-}
+use crate::{Line, Progress, Request, Stage};
+use rules::{Opened, Opening, Refusal, Rule, USUAL};
 
 // Before the first line. The closed search is that of an opening with no axis, which is refused.
 pub(super) fn nothing_read() -> Progress
     ensures { result ≡ nothing_read }
 {
-    let axes = no_axes();
-    let rule = RuleChoice::Unnamed;
-    let closed = engine::open_search(0, axes, rule, USUAL, 0);
-    let search = closed.search;
-    let request = Request {
-        n: 0,
-        budget: 0,
-        spread: 0,
-        axes,
-    };
+    let request = Request::default();
     Progress {
         stage: Stage::Head,
         request,
-        search,
-    }
-}
-
-// Opens the search that the lines ask for. A refusal is printed.
-fn open(request: Request) -> Turn
-    ensures { result ≡ turn_of (opening_turn request) }
-{
-    let axes = request.axes;
-    let rule = RuleChoice::Named(Rule::Spread(request.spread));
-    let answer = engine::open_search(request.n, axes, rule, USUAL, request.budget);
-    let verdict = answer.verdict;
-    let search = answer.search;
-    match verdict {
-        Verdict::Accepted => {
-            let progress = Progress {
-                stage: Stage::Costs,
-                request,
-                search,
-            };
-            let text = lines::no_line();
-            Turn { progress, text }
-        }
-        Verdict::Refused(r) => {
-            let progress = Progress {
-                stage: Stage::Done,
-                request,
-                search,
-            };
-            let text = lines::refused(engine::refusal_number(r));
-            Turn { progress, text }
-        }
+        search: request.open().search,
     }
 }
 
@@ -80,19 +28,55 @@ fn axis_lines(n: usize) -> usize
     if 1 <= n && n <= 8 { n } else { 0 }
 }
 
-// After k axis lines: the next one, or the opening.
-pub(super) fn axes_read(k: usize, request: Request, search: Search) -> Turn
-    ensures { result ≡ turn_of (axes_read k request search) }
-{
-    if k < axis_lines(request.n) {
-        let progress = Progress {
-            stage: Stage::Axes(k),
-            request,
-            search,
-        };
-        let text = lines::no_line();
-        Turn { progress, text }
-    } else {
-        open(request)
+impl Request {
+    // Opens the search that the lines ask for.
+    fn open(&self) -> Opened
+        ensures { result ≡ opening_of self.now }
+    {
+        engine::open_search(&Opening {
+            n: self.n,
+            axes: self.axes,
+            rule: Some(Rule::Spread(self.spread)),
+            coefficients: USUAL,
+            budget: self.budget,
+        })
+    }
+}
+
+impl Progress {
+    // A refusal is printed last.
+    pub(super) fn refuse(&mut self, refusal: Refusal) -> Line
+        ensures { turn_of self.new result ≡ last_turn self.old (refused_line (number_of refusal)) }
+    {
+        self.stage = Stage::Done;
+        lines::refused(refusal)
+    }
+
+    // Opens the search that the lines ask for. A refusal is printed.
+    fn open(&mut self) -> Line
+        ensures { turn_of self.new result ≡ opening_turn self.old.request }
+    {
+        let opened = self.request.open();
+        self.search = opened.search;
+        match opened.verdict {
+            Ok(()) => {
+                self.stage = Stage::Costs;
+                Line::new()
+            }
+            Err(refusal) => self.refuse(refusal),
+        }
+    }
+
+    // After k axis lines: the next one, or the opening.
+    #[tactic(auto, unfolding(crate::specs::Reading::axes_read))]
+    pub(super) fn axes_read(&mut self, k: usize) -> Line
+        ensures { turn_of self.new result ≡ axes_read k self.old.request self.old.search }
+    {
+        if k < axis_lines(self.request.n) {
+            self.stage = Stage::Axes(k);
+            Line::new()
+        } else {
+            self.open()
+        }
     }
 }

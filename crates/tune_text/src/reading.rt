@@ -1,168 +1,105 @@
 // What a line of the input does.
-ghost use Rattle.std.specs.Prelude.{◌≡◌, ◌<◌};
-ghost use Rattle.tune_text.specs.Lines.{bad_line};
-ghost use Rattle.tune_text.specs.Reading.{axis_from, at as Reading·at, cost_told, last_turn, line_read, with_axis};
+ghost use Rattle.std.specs.Prelude.{◌≡◌, ℕ};
+ghost use Rattle.tune_text.specs.Reading.{axis_from, cost_told, line_read};
 ghost use Rattle.tune_text.specs.declared.Stage.TheVariants.{Head, Axes, Costs};
-ghost use Rattle.tune_text.specs.Handed.{last_turn_with, turn_of};
+ghost use Rattle.tune_text.specs.Handed.{turn_of, turn_or_bad, turn_or_refused};
 
-use super::{fields, lines, opening};
-use crate::{Progress, Request, Stage, Text, Turn};
+use super::{fields, lines};
+use crate::{Line, Progress, Request, Stage};
 use numerals::float_of;
-use rules::{Axis, Verdict};
-
-// What is read so far, at another stage.
-pub(super) fn at(stage: Stage, progress: Progress) -> Progress
-    ensures { result ≡ Reading·at stage progress }
-{
-    let request = progress.request;
-    let search = progress.search;
-    Progress {
-        stage,
-        request,
-        search,
-    }
-}
-
-// A last line is printed.
-fn last_turn(progress: Progress, text: Text) -> Turn
-    ensures { result ≡ last_turn_with progress text }
-{
-    let done = at(Stage::Done, progress);
-    Turn {
-        progress: done,
-        text,
-    }
-}
-
-// Line i is malformed.
-fn bad_line(progress: Progress, i: u64) -> Turn
-    ensures { result ≡ turn_of (last_turn progress (bad_line i)) }
-{
-    let text = lines::bad(i);
-    last_turn(progress, text)
-}
-
-// The first line.
-fn head_line(progress: Progress, i: u64, line: &[u8]) -> Turn
-    ensures { result ≡ turn_of (line_read Head progress i line.now) }
-{
-    let numbers = fields::whole_numbers(line, 3);
-    if !numbers.well {
-        return bad_line(progress, i);
-    }
-    let values = numbers.values;
-    let search = progress.search;
-    let axes = opening::no_axes();
-    let request = Request {
-        n: values[0] as usize,
-        budget: values[1],
-        spread: values[2],
-        axes,
-    };
-    opening::axes_read(0, request, search)
-}
+use rules::{Asked, Axis, Refusal, Vertex};
 
 // An axis record by its bits.
 fn axis_from(values: [u64; 4]) -> Axis
     ensures { result ≡ axis_from values }
 {
+    let [lo, hi, start, step] = values.map(float_of);
     Axis {
-        lo: float_of(values[0]),
-        hi: float_of(values[1]),
-        start: float_of(values[2]),
-        step: float_of(values[3]),
+        lo,
+        hi,
+        start,
+        step,
     }
 }
 
-// The request with its axis record k.
-fn with_axis(k: usize, axis: Axis, request: Request) -> Request
-    requires { k < 8 }
-    ensures { result ≡ with_axis k axis request }
-{
-    let mut axes = request.axes;
-    axes[k] = axis;
-    Request {
-        n: request.n,
-        budget: request.budget,
-        spread: request.spread,
-        axes,
+impl Progress {
+    // The first line; none where it is malformed.
+    #[tactic(auto, unfolding(crate::specs::Reading::line_read, crate::specs::Handed::numbers_read))]
+    fn head_line(&mut self, line: &[u8]) -> Option<Line>
+        ensures { (i : ℕ) → turn_or_bad i self.new result ≡ line_read Head self.old i line.now }
+    {
+        let [n, budget, spread] = fields::whole_numbers::<3>(line)?;
+        self.request = Request {
+            n: n as usize,
+            budget,
+            spread,
+            ..Request::default()
+        };
+        Some(self.axes_read(0))
     }
-}
 
-// Axis line k, from 0.
-fn axis_line(k: usize, progress: Progress, i: u64, line: &[u8]) -> Turn
-    ensures { result ≡ turn_of (line_read (Axes k) progress i line.now) }
-{
-    let numbers = fields::four_floats(line);
-    if !numbers.well {
-        return bad_line(progress, i);
+    // Axis line k, from 0; none where it is malformed.
+    #[tactic(auto, unfolding(crate::specs::Reading::line_read, crate::specs::Handed::numbers_read))]
+    fn axis_line(&mut self, k: usize, line: &[u8]) -> Option<Line>
+        ensures { (i : ℕ) → turn_or_bad i self.new result ≡ line_read (Axes k) self.old i line.now }
+    {
+        let values = fields::four_floats(line)?;
+        if k < 8 {
+            self.request.axes[k] = axis_from(values);
+            Some(self.axes_read(k + 1))
+        } else {
+            Some(self.axes_read(k))
+        }
     }
-    let values = numbers.values;
-    let search = progress.search;
-    let request = progress.request;
-    if k < 8 {
-        let more = with_axis(k, axis_from(values), request);
-        opening::axes_read(k + 1, more, search)
-    } else {
-        opening::axes_read(k, request, search)
-    }
-}
 
-// Asks for the trial and tells this cost for it.
-fn tell(progress: Progress, cost: u64) -> Turn
-    ensures { result ≡ turn_of (cost_told progress cost) }
-{
-    let search = progress.search;
-    let asked = engine::ask(search);
-    let told = engine::tell(search, asked.number, cost);
-    let verdict = told.verdict;
-    match verdict {
-        Verdict::Accepted => {
-            let request = progress.request;
-            let next = told.search;
-            let setup = search.setup;
-            let point = asked.point;
-            let text = lines::reading(asked.number, setup.n, point, cost);
-            let after = Progress {
-                stage: Stage::Costs,
-                request,
-                search: next,
-            };
-            Turn {
-                progress: after,
-                text,
+    // Asks for the trial and tells this cost for it, or refuses.
+    #[tactic(auto, using(crate::proofs::Laws::Reading::told_unchanged), unfolding(crate::specs::Reading::cost_told))]
+    fn tell(&mut self, cost: u64) -> Result<Line, Refusal>
+        requires { self.old.stage ≡ Costs }
+        ensures { turn_or_refused self.new result ≡ cost_told self.old cost }
+    {
+        let n = self.search.setup.n;
+        let Asked { number, point } = engine::ask(&self.search)?;
+        engine::tell(&mut self.search, number, cost)?;
+        Ok(lines::reading(number, n, &Vertex { point, cost }))
+    }
+
+    // A cost line; none where it is malformed.
+    #[tactic(auto, unfolding(crate::specs::Reading::line_read, crate::specs::Handed::numbers_read))]
+    fn cost_line(&mut self, line: &[u8]) -> Option<Line>
+        requires { self.old.stage ≡ Costs }
+        ensures { (i : ℕ) → turn_or_bad i self.new result ≡ line_read Costs self.old i line.now }
+    {
+        let [cost] = fields::whole_numbers::<1>(line)?;
+        match self.tell(cost) {
+            Ok(line) => Some(line),
+            Err(refusal) => Some(self.refuse(refusal)),
+        }
+    }
+
+    // What a line of the input does, by the stage; none where it is malformed.
+    #[tactic(auto, unfolding(crate::specs::Reading::line_read))]
+    fn well_formed(&mut self, line: &[u8]) -> Option<Line>
+        ensures { (i : ℕ) → turn_or_bad i self.new result ≡ line_read self.old.stage self.old i line.now }
+    {
+        match self.stage {
+            Stage::Head => self.head_line(line),
+            Stage::Axes(k) => self.axis_line(k, line),
+            Stage::Costs => self.cost_line(line),
+            Stage::Done => Some(Line::new()),
+        }
+    }
+
+    // Line i of the input.
+    pub(super) fn read_line(&mut self, i: u64, line: &[u8]) -> Line
+        ensures { turn_of self.new result ≡ line_read self.old.stage self.old i line.now }
+    {
+        match self.well_formed(line) {
+            Some(line) => line,
+            None => {
+                self.stage = Stage::Done;
+                lines::bad(i)
             }
-        }
-        Verdict::Refused(r) => {
-            let text = lines::refused(engine::refusal_number(r));
-            last_turn(progress, text)
-        }
-    }
-}
-
-// A cost line.
-fn cost_line(progress: Progress, i: u64, line: &[u8]) -> Turn
-    ensures { result ≡ turn_of (line_read Costs progress i line.now) }
-{
-    let numbers = fields::whole_numbers(line, 1);
-    if !numbers.well {
-        return bad_line(progress, i);
-    }
-    let values = numbers.values;
-    tell(progress, values[0])
-}
-
-// Line i of the input.
-pub(super) fn read_line(stage: Stage, progress: Progress, i: u64, line: &[u8]) -> Turn
-    ensures { result ≡ turn_of (line_read stage progress i line.now) }
-{
-    match stage {
-        Stage::Head => head_line(progress, i, line),
-        Stage::Axes(k) => axis_line(k, progress, i, line),
-        Stage::Costs => cost_line(progress, i, line),
-        Stage::Done => {
-            let text = lines::no_line();
-            Turn { progress, text }
         }
     }
 }

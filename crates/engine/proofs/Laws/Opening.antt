@@ -1,29 +1,16 @@
 -- Laws on the checks of an opening. Assumes nothing.
-use mathlib.Core.Path.{◌≡◌, refl}
-use mathlib.Core.Bool.{Bool, true, false}
-use mathlib.Core.List.{List}
-use Prim.Native.Nat.{ℕ, zero, suc, ◌+◌, ◌-◌, ◌≤◌, ◌<◌}
-use native.Mathlib.Omega.{arith}
-use lib.ListN.{get_or}
+use Rattle.std.proofs.Common.{◌≡◌, refl, List, ℕ, zero, suc, ◌+◌, ◌-◌, ◌≤◌, ◌<◌, get_or, ◌&&◌, Option, Ok, leb, le-leb, arith}
 use Rattle.rules.specs.Trial.{no_axis}
-use Rattle.rules.specs.Refusals.{check}
-use Rattle.rules.specs.Opening.{axis_checks, axes_checks}
+use Rattle.rules.specs.Numbers.{max_budget}
+use Rattle.rules.specs.Refusals.{Verdict, check}
+use Rattle.rules.specs.Opening.{axis_checks, axes_checks, in_coefficients, in_threshold, rule_of, open_verdict}
 use Rattle.rules.specs.declared.Axis.{Axis}
-use Rattle.rules.specs.declared.Verdict.{Verdict}
-use Rattle.rules.specs.declared.Verdict.TheVariants.{Accepted, Refused}
-use Rattle.rules.specs.declared.Refusal.{Refusal}
+use Rattle.rules.specs.declared.Coefficients.{Coefficients}
+use Rattle.rules.specs.declared.Rule.{Rule}
+use Rattle.rules.specs.declared.Refusal.TheVariants.{BadCoefficient, BadThreshold, BadBudget}
+use Rattle.engine.proofs.Laws.Checking.{and_then, check_then}
 
 -- ---- the checks of the axes
-
--- a verdict, and that of the checks after it
-abbrev pub and_then : Verdict → Verdict → Verdict
-and_then Accepted v = v
-and_then (Refused r) v = Refused r
-
--- a check and those after it
-check_then : (b : Bool) (r : Refusal) (u v : Verdict) → and_then (check b r u) v ≡ check b r (and_then u v)
-check_then true r u v = refl
-check_then false r u v = refl
 
 -- the checks of an axis and those after it
 axis_then : (i : ℕ) (x : Axis) (u v : Verdict) → and_then (axis_checks i x u) v ≡ axis_checks i x (and_then u v)
@@ -36,14 +23,20 @@ axes_then zero i xs u v = refl
 axes_then (suc k) i xs u v = rw (axis_then, axes_then k (suc i) xs u v)
 
 -- the checks of the axes, which without more give the verdict u, and those after them
-pub axes_with : (k i : ℕ) (xs : List Axis) (u v : Verdict) → u ≡ axes_checks k i xs Accepted → axes_checks k i xs v ≡ and_then u v
+axes_with : (k i : ℕ) (xs : List Axis) (u v : Verdict) → u ≡ axes_checks k i xs (Ok tt) → axes_checks k i xs v ≡ and_then u v
 axes_with k i xs u v e = rw (e, axes_then)
 
--- of n axes, of which k are left, the first of these has the verdict u, and the others follow
-pub axes_first : (n k : ℕ) (xs : List Axis) (u v : Verdict) → 0 < k → k ≤ n → u ≡ axis_checks (n - k + 1) (get_or xs (n - k) no_axis) Accepted → axes_checks k (n - k) xs v ≡ and_then u (axes_checks (k - 1) (n - (k - 1)) xs v)
+-- of n axes, those from the i-th on, counted from 0: it has the verdict u, and the others follow
+pub axes_first : (n i : ℕ) (xs : List Axis) (u v : Verdict) → i < n → u ≡ axis_checks (i + 1) (get_or xs i no_axis) (Ok tt) → axes_checks (n - i) i xs v ≡ and_then u (axes_checks (n - (i + 1)) (i + 1) xs v)
 unfolding axes_checks
-axes_first n zero xs u v l h e = absurd (omega arith)
-axes_first n (suc k) xs u v l h e =
-    let less : suc k - 1 ≡ k = omega arith in
-    let next : n - k ≡ suc (n - suc k) = omega arith in
-    rw (e, axis_then, less, next)
+axes_first n i xs u v l e =
+    let more : n - i ≡ suc (n - (i + 1)) = omega arith in
+    let next : suc i ≡ i + 1 = omega arith in
+    rw (e, axis_then, more, next)
+
+-- where check 1 passes, the verdict is that of the checks of the axes, and of checks 5 to 7 after them
+pub open_after_axes : (n : ℕ) (axes : List Axis) (rule : Option Rule) (c : Coefficients) (budget : ℕ) → 1 ≤ n → n ≤ 8
+    → open_verdict n axes rule c budget
+    ≡ and_then (axes_checks n 0 axes (Ok tt)) (check (in_coefficients c) BadCoefficient (check (in_threshold (rule_of rule)) BadThreshold (check (leb (n + 1) budget && leb budget max_budget) BadBudget (Ok tt))))
+unfolding open_verdict
+open_after_axes n axes rule c budget low high = rw (le-leb 1 n low, le-leb n 8 high, axes_with n 0 axes (axes_checks n 0 axes (Ok tt)) _ refl)

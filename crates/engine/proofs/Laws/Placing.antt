@@ -1,44 +1,60 @@
--- Laws on the places of a simplex: a vertex put after the first k, and a newcomer among them. Assumes nothing.
-use mathlib.Core.Path.{◌≡◌, refl, sym, ap, ◌∙◌, subst⁻¹}
+-- Laws on the places of a simplex: blank ones after the first k, and a newcomer among the first k. Assumes nothing.
+use mathlib.Core.Path.{◌≡◌, refl, sym, ap, ◌∙◌, subst, subst⁻¹}
 use mathlib.Core.List.Memᴰ
-use mathlib.Core.List.{List, [], ◌∷◌, ◌++◌, map, map-append, append_assoc, Memᴰ}
+use mathlib.Core.List.{List, [], ◌∷◌, ◌++◌, map, map-append, append-nil, append_assoc, Memᴰ}
 use mathlib.Core.Logic.{⊎_elim}
 use Prim.Native.Nat.{ℕ, zero, suc, ◌+◌, ◌-◌, ◌*◌, ◌≤◌, ◌<◌}
 use native.Mathlib.Numerals.{add-one}
 use native.Mathlib.Omega.{arith}
-use lib.ListN.{length, take, drop, set, replicate, length-append, length-drop, length-map, drop_of_length-le, get_or-eq_default}
-use lib.Seq.{take_all, take_at, set_at, append_snoc, drop-cons, drop-append-add, length-take-le, length-paste}
+use lib.ListN.{length, take, drop, set, replicate, length-append, length-drop, length-map, drop_of_length-le, get_or, get_or-eq_default, take-append-drop, replicate-append-replicate}
+use lib.Seq.{paste, paste-zero, paste-suc, take_all, take_at, drop_at, take-suc, drop-cons, take-append-le, take-take, length-take-le}
+use lib.Ieee.{Float}
+use borrow.Rule.Slice.PartMut.{put_mid, mid_of}
+use Rattle.std.specs.List.{copy_within}
+use Rattle.rules.specs.Binary64.{0ᶠ}
 use Rattle.rules.specs.declared.Simplex.{Simplex}
 use Rattle.rules.specs.declared.Vertex.{Vertex}
 use Rattle.rules.specs.Numbers.{max_cost}
 use Rattle.rules.specs.Simplex.{up_to, blank, cost_of, flat, store, pack, place, unpack, insert}
 use Rattle.rules.proofs.Laws.Lists.{length_up_to, get_or_up_to, mem_get_or}
-use Rattle.rules.proofs.Laws.Places.{Whole, whole_padded, drop_flat, flat_append, unpack_pack, cost_pack}
-use Rattle.rules.proofs.Laws.Order.{insert_after, insert_before, length_insert, mem_insert, le_or_lt}
-use Rattle.engine.specs.Places.{put_at, Clean, Capped}
+use Rattle.rules.proofs.Laws.Places.{Whole, flat_append, flat_unpack, costs_unpack, unpack_pack, cost_pack}
+use Rattle.rules.proofs.Laws.Order.{insert_after, insert_before, mem_insert, le_or_lt}
+use Rattle.engine.specs.Places.{put_at, Clean, Holds, Capped}
 
--- ---- points of eight numbers
+-- ---- blank places
 
--- two lists of vertices, each with a point of eight numbers, make one such list
-whole_append : (vs ws : List Vertex) → Whole vs → Whole ws → Whole (vs ++ ws)
-whole_append vs ws a b v m = ⊎_elim (a v) (b v) (Memᴰ.append_cases vs m)
-
--- one vertex with a point of eight numbers makes a list of such vertices
-whole_one : (v : Vertex) → length v.point ≡ 8 → Whole (v ∷ [])
-whole_one v e w m = rw (Memᴰ.eq_of_singleton m) e
-
--- the flat run has eight numbers for each vertex
-length_flat : (vs : List Vertex) → Whole vs → length (flat vs) ≡ 8 * length vs
+-- the points of blank places are zeros
+flat_blank : (k : ℕ) → flat (replicate k blank) ≡ replicate (8 * k) 0ᶠ
 unfolding flat
-length_flat [] h = refl
-length_flat (v ∷ vs) h = simp length-append (omega (arith, h v (Memᴰ.head refl), length_flat vs (λ w m. h w (Memᴰ.tail m))))
+flat_blank zero = refl
+flat_blank (suc k) =
+    let e : 8 * suc k ≡ 8 + 8 * k = omega arith in
+    rw (e, flat_blank k, ← replicate-append-replicate)
 
--- ---- the vertices of the first m places
+-- the costs of blank places are zeros
+costs_blank : (k : ℕ) → map cost_of (replicate k blank) ≡ replicate k 0
+costs_blank zero = refl
+costs_blank (suc k) = rw (costs_blank k)
+
+-- a run that is filled with z from place a on
+pub filled : {A : Type 0} (a n : ℕ) (xs ys : List A) (z : A) → a ≤ n → length xs ≡ n → ys ≡ replicate (length (mid_of a (n - a) xs)) z
+    → put_mid a (n - a) xs ys ≡ take a xs ++ replicate (n - a) z
+filled a n xs ys z l e h =
+    let long : length (drop a xs) ≡ n - a = simp length-drop (omega arith) in
+    rw (h, take_all (n - a) (drop a xs) (omega arith), long, drop_of_length-le (drop a xs) {i = n - a} (omega arith), append-nil)
 
 -- the first m places have m vertices
 pub length_unpack : (m : ℕ) (s : Simplex) → length (unpack m s) ≡ m
 unfolding unpack
 length_unpack m s = length_up_to (place s) m
+
+-- the first m places, and zeros after them, are the vertices of the first m places
+pub pack_first : (s : Simplex) (m : ℕ) (ps : List Float) (cs : List ℕ) → m ≤ length s.costs
+    → ps ≡ take (8 * m) s.points ++ replicate (72 - 8 * m) 0ᶠ → cs ≡ take m s.costs ++ replicate (9 - m) 0 → record { points = ps; costs = cs } ≡ pack (unpack m s)
+unfolding store
+pack_first s m ps cs l p c =
+    let e : 72 - 8 * m ≡ 8 * (9 - m) = omega arith in
+    rw (length_unpack m s, flat_append, map-append cost_of, flat_unpack m s, costs_unpack m s l, flat_blank, costs_blank, p, c, e)
 
 -- what holds at each of the first m places holds of each vertex that `unpack` reads there
 each_unpack : (P : Vertex → Type 0) (m : ℕ) (s : Simplex) → ((i : ℕ) → i < m → P (place s i)) → (v : Vertex) → Memᴰ v (unpack m s) → P v
@@ -57,6 +73,10 @@ whole_unpack m s h l =
     let e : 8 ≤ length (drop (8 * i) s.points) = simp length-drop (omega arith) in
     length-take-le 8 (drop (8 * i) s.points) e
 
+-- the vertices of the first m places are found again once blank places follow them
+pub unpack_first : (s : Simplex) (m : ℕ) → length s.points ≡ 72 → m ≤ 9 → unpack m (pack (unpack m s)) ≡ unpack m s
+unpack_first s m h l = subst (λ (k : ℕ). unpack k (pack (unpack m s)) ≡ unpack m s) (length_unpack m s) (unpack_pack (unpack m s) (whole_unpack m s h l))
+
 -- the vertices of the places from i on are that at place i and those from i + 1 on
 pub rest_more : (s : Simplex) (i len : ℕ) → i < len → drop i (unpack len s) ≡ place s i ∷ drop (i + 1) (unpack len s)
 unfolding unpack
@@ -66,77 +86,115 @@ rest_more s i len h = rw (add-one, drop-cons (unpack len s) i blank (omega (arit
 pub rest_none : (s : Simplex) (i len : ℕ) → len ≤ i → drop i (unpack len s) ≡ []
 rest_none s i len h = drop_of_length-le (unpack len s) {i = i} (omega (arith, length_unpack len s))
 
--- ---- a vertex put at a place
+-- ---- a vertex put between others
 
--- a vertex put at the place after the vertices us replaces the one that stood there
-put_store : (us : List Vertex) (w v : Vertex) (ws : List Vertex) → Whole us → Whole (w ∷ ws) → length v.point ≡ 8 → put_at (store (us ++ w ∷ ws)) (length us) v ≡ store (us ++ v ∷ ws)
+module _ {A : Type 0} where
+  -- a run of b elements put at the end of xs, where ys is moved on by b over the b elements zs
+  pub opened : (xs ys zs ws new : List A) (i e b : ℕ) → length xs ≡ i → length xs + length ys ≡ e → length zs ≡ b → length new ≡ b
+      → paste (copy_within (xs ++ ys ++ zs ++ ws) i e (i + b)) i new b ≡ xs ++ new ++ ys ++ ws
+  opened xs ys zs ws new i e b p q r t =
+      let whole = xs ++ (ys ++ (zs ++ ws)) in
+      let flat : xs ++ ys ++ zs ++ ws ≡ whole = simp append_assoc in
+      let long : length whole ≡ e + b + length ws = simp length-append (omega arith) in
+      let rest : drop i whole ≡ ys ++ (zs ++ ws) = drop_at xs _ i p in
+      let moved : take (e - i) (ys ++ (zs ++ ws)) ≡ ys = take_at ys _ (e - i) (omega arith) in
+      let seam : whole ≡ (xs ++ ys ++ zs) ++ ws = simp append_assoc in
+      let past : drop (i + b + (e - i)) whole ≡ ws = rw seam (drop_at (xs ++ ys ++ zs) ws (i + b + (e - i)) (simp length-append (omega arith))) in
+      let head = take (i + b) whole in
+      let inner : length head ≡ i + b = length-take-le (i + b) whole (omega arith) in
+      let front : take i head ≡ xs = take-take i (i + b) whole (omega arith) ∙ take_at xs _ i p in
+      let made : copy_within whole i e (i + b) ≡ head ++ (ys ++ ws) = rw (rest, moved, past) (append_assoc head ys ws) in
+      let first : take i (head ++ (ys ++ ws)) ≡ xs = take-append-le i head (ys ++ ws) (omega arith) ∙ front in
+      rw (flat, made, first, drop_at head (ys ++ ws) (i + b) inner, take_all b new (omega arith)) (simp append_assoc)
+
+  -- an element stored is a run of one put there
+  set_paste : (xs : List A) (i : ℕ) (x : A) → i < length xs → set xs i x ≡ paste xs i (x ∷ []) 1
+  set_paste xs i x l =
+      let h : i + 0 < length xs = omega arith in
+      let e : i + 0 ≡ i = omega arith in
+      subst (λ (k : ℕ). set xs k x ≡ paste xs i (x ∷ []) 1) e (ap (λ (l : List A). set l (i + 0) x) (paste-zero xs i (x ∷ [])) ∙ paste-suc xs i (x ∷ []) 0 x h (omega arith))
+
+-- the flat run has eight numbers for each vertex
+length_flat : (vs : List Vertex) → Whole vs → length (flat vs) ≡ 8 * length vs
+unfolding flat
+length_flat [] h = refl
+length_flat (v ∷ vs) h = simp length-append (omega (arith, h v (Memᴰ.head refl), length_flat vs (λ w m. h w (Memᴰ.tail m))))
+
+-- two lists of vertices, each with a point of eight numbers, make one such list
+whole_append : (vs ws : List Vertex) → Whole vs → Whole ws → Whole (vs ++ ws)
+whole_append vs ws a b v m = ⊎_elim (a v) (b v) (Memᴰ.append_cases vs m)
+
+-- v put where the vertices ys have moved on by one place stands between xs and ys
+put_between : (xs ys : List Vertex) (v : Vertex) (s : Simplex) (i len : ℕ) → Whole xs → Whole ys → length v.point ≡ 8 → length xs ≡ i → length xs + length ys ≡ len → len ≤ 8 → length s.costs ≡ 9
+    → s.points ≡ copy_within (pack (xs ++ ys)).points (8 * i) (8 * len) (8 * i + 8) → s.costs ≡ copy_within (pack (xs ++ ys)).costs i len (i + 1)
+    → put_at s i v ≡ pack (xs ++ v ∷ ys)
 unfolding store flat
-put_store us w v ws a b e =
-    let n : 8 * length us + 8 ≡ 8 * (length us + 1) = omega arith in
-    let front : take (8 * length us) (flat (us ++ w ∷ ws)) ≡ flat us = ap (take (8 * length us)) (flat_append us (w ∷ ws)) ∙ take_at (flat us) _ _ (length_flat us a) in
-    let back : drop (8 * length us + 8) (flat (us ++ w ∷ ws)) ≡ flat ws = rw (n, drop_flat (us ++ w ∷ ws) (length us + 1) (whole_append us (w ∷ ws) a b), drop-append-add us (w ∷ ws) 1) in
-    let costs : set (map cost_of (us ++ w ∷ ws)) (length us) v.cost ≡ map cost_of (us ++ v ∷ ws) = rw (map-append cost_of us (w ∷ ws), map-append cost_of us (v ∷ ws)) (set_at (map cost_of us) w.cost (map cost_of ws) v.cost (length us) (simp length-map)) in
-    rw (front, back, costs, take_all 8 v.point (omega arith), flat_append us (v ∷ ws), append_assoc)
+put_between xs ys v s i len a b eight h k small nine p c =
+    let m = 8 - len in
+    let ws = replicate m blank in
+    let before : 9 - length (xs ++ ys) ≡ suc m = simp length-append (omega arith) in
+    let after : 9 - length (xs ++ v ∷ ys) ≡ m = simp length-append (omega arith) in
+    let points : flat (xs ++ ys ++ replicate (suc m) blank) ≡ flat xs ++ flat ys ++ blank.point ++ flat ws = simp (flat_append, append_assoc) in
+    let costs : map cost_of (xs ++ ys ++ replicate (suc m) blank) ≡ map cost_of xs ++ map cost_of ys ++ (0 ∷ []) ++ map cost_of ws = simp (map-append, append_assoc) in
+    let put_points = opened (flat xs) (flat ys) blank.point (flat ws) v.point (8 * i) (8 * len) 8 (omega (arith, length_flat xs a)) (omega (arith, length_flat xs a, length_flat ys b)) refl eight in
+    let put_costs = opened (map cost_of xs) (map cost_of ys) (0 ∷ []) (map cost_of ws) (v.cost ∷ []) i len 1 (simp length-map h) (simp length-map k) refl refl in
+    let all_points : flat (xs ++ v ∷ ys ++ ws) ≡ flat xs ++ v.point ++ flat ys ++ flat ws = simp (flat_append, append_assoc) in
+    let all_costs : map cost_of (xs ++ v ∷ ys ++ ws) ≡ map cost_of xs ++ (v.cost ∷ []) ++ map cost_of ys ++ map cost_of ws = simp (map-append, append_assoc) in
+    let ps : paste s.points (8 * i) v.point 8 ≡ flat (xs ++ v ∷ ys ++ ws) = rw (p, before, points) (put_points ∙ sym all_points) in
+    let cs : set s.costs i v.cost ≡ map cost_of (xs ++ v ∷ ys ++ ws) = set_paste s.costs i v.cost (omega arith) ∙ rw (c, before, costs) (put_costs ∙ sym all_costs) in
+    rw (ps, cs, after)
 
--- a vertex put at the first blank place stands after the packed vertices us
-pack_more : (us : List Vertex) (v : Vertex) → Whole us → length v.point ≡ 8 → length us < 9 → put_at (pack us) (length us) v ≡ pack (us ++ (v ∷ []))
-pack_more us v h e l =
-    let m = 9 - suc (length us) in
-    let before : 9 - length us ≡ suc m = omega arith in
-    let after : 9 - length (us ++ (v ∷ [])) ≡ m = simp length-append (omega arith) in
-    rw (before, after, append_snoc) (put_store us blank v (replicate m blank) h (whole_padded [] (suc m) λ w k. absurd (Memᴰ.not-nil k)) e)
-
--- next holds the first k places of out and v after them, and blank places follow
-pub record More (out next : Simplex) (k : ℕ) (v : Vertex) : Type 0 where
-  pub packs : next ≡ pack (unpack k out ++ (v ∷ []))
-  pub grown : unpack (k + 1) next ≡ unpack k out ++ (v ∷ [])
-  pub clean : Clean (k + 1) next
-  pub long : length next.points ≡ 72
-
--- once v is put at the first blank place of out, next holds the first k places of out and v after them
-pub put_more : (out next : Simplex) (k : ℕ) (v : Vertex) → Clean k out → length out.points ≡ 72 → length v.point ≡ 8 → k < 9 → next ≡ put_at out k v → More out next k v
-put_more out next k v clean long eight room e =
-    let us = unpack k out in
-    let whole : Whole us = whole_unpack k out long (omega arith) in
-    let n : k ≡ length us = sym (length_unpack k out) in
-    let m : k + 1 ≡ length (us ++ (v ∷ [])) = simp (length-append, length_unpack) in
-    let packs : next ≡ pack (us ++ (v ∷ [])) = e ∙ ap (λ (s : Simplex). put_at s k v) clean ∙ ap (λ (i : ℕ). put_at (pack us) i v) n ∙ pack_more us v whole eight (omega arith) in
-    let grown : unpack (k + 1) next ≡ us ++ (v ∷ []) = rw (packs, m) (unpack_pack (us ++ (v ∷ [])) (whole_append us (v ∷ []) whole (whole_one v eight))) in
-    record {
-      packs = packs;
-      grown = grown;
-      clean = rw grown packs;
-      long = ap (λ (s : Simplex). length s.points) e ∙ length-paste out.points (8 * k) v.point 8 (omega arith) (omega arith) ∙ long;
-    }
+-- v put where the first len vertices of old have moved on from place i stands among them
+pub put_among : (old new : Simplex) (i len : ℕ) (v : Vertex) → Clean len old → length old.points ≡ 72 → length v.point ≡ 8 → i ≤ len → len ≤ 8 → length new.costs ≡ 9
+    → new.points ≡ copy_within old.points (8 * i) (8 * len) (8 * i + 8) → new.costs ≡ copy_within old.costs i len (i + 1)
+    → Holds (len + 1) (put_at new i v) (take i (unpack len old) ++ v ∷ drop i (unpack len old))
+put_among old new i len v clean long eight l small nine p c =
+    let us = unpack len old in
+    let n = length_unpack len old in
+    let whole : Whole us = whole_unpack len old long (omega arith) in
+    let parts : take i us ++ drop i us ≡ us = take-append-drop i us in
+    let front : Whole (take i us) = λ w m. whole w (subst (λ (vs : List Vertex). Memᴰ w vs) parts (Memᴰ.append_left (drop i us) m)) in
+    let back : Whole (drop i us) = λ w m. whole w (subst (λ (vs : List Vertex). Memᴰ w vs) parts (Memᴰ.append_right (take i us) m)) in
+    let was : old ≡ pack (take i us ++ drop i us) = rw parts clean in
+    let vs = take i us ++ v ∷ drop i us in
+    let packed : put_at new i v ≡ pack vs =
+    put_between (take i us) (drop i us) v new i len front back eight (length-take-le i us (omega arith)) (simp length-append at (ap length parts) ∙ n) small nine
+    (p ∙ ap (λ (s : Simplex). copy_within s.points (8 * i) (8 * len) (8 * i + 8)) was)
+    (c ∙ ap (λ (s : Simplex). copy_within s.costs i len (i + 1)) was) in
+    let one : Whole (v ∷ []) = λ w m. rw (Memᴰ.eq_of_singleton m) eight in
+    let all : Whole vs = whole_append (take i us) (v ∷ drop i us) front (whole_append (v ∷ []) (drop i us) one back) in
+    let m : length vs ≡ len + 1 = simp length-append (omega (arith, length-take-le i us (omega arith), length-drop i us)) in
+    record { packed = packed; read = rw packed (subst (λ (k : ℕ). unpack k (pack vs) ≡ vs) m (unpack_pack vs all)) }
 
 -- ---- the newcomer among the places from i on
 
 module _ (v : Vertex) (s : Simplex) (i len : ℕ) where
+  -- the newcomer goes past place i where the cost there is not above its own
+  pub inserts_after : i < len → get_or s.costs i 0 ≤ v.cost → take i (unpack len s) ++ insert v (drop i (unpack len s)) ≡ take (i + 1) (unpack len s) ++ insert v (drop (i + 1) (unpack len s))
+  unfolding unpack
+  inserts_after l h =
+      let us = unpack len s in
+      let w : get_or us i blank ≡ place s i = get_or_up_to (place s) i len blank l in
+      rw (rest_more s i len l, insert_after v (place s i) (drop (i + 1) us) h, add-one, take-suc us i blank (omega (arith, length_unpack len s)), w) (simp append_assoc)
+
+  -- the newcomer stops before place i where the cost there is above its own
+  pub inserts_before : i < len → v.cost < get_or s.costs i 0 → insert v (drop i (unpack len s)) ≡ v ∷ drop i (unpack len s)
+  inserts_before l h = rw (rest_more s i len l) (insert_before v (place s i) (drop (i + 1) (unpack len s)) h)
+
   -- past the last place the newcomer is alone
-  pub inserts_last : len ≤ i → insert v (drop i (unpack len s)) ≡ v ∷ []
+  pub inserts_last : len ≤ i → insert v (drop i (unpack len s)) ≡ v ∷ drop i (unpack len s)
   unfolding insert
   inserts_last h = rw (rest_none s i len h)
 
-  -- the newcomer goes past place i where the cost there is not above its own
-  pub inserts_after : i < len → (place s i).cost ≤ v.cost → insert v (drop i (unpack len s)) ≡ place s i ∷ insert v (drop (i + 1) (unpack len s))
-  inserts_after l h = rw (rest_more s i len l) (insert_after v (place s i) (drop (i + 1) (unpack len s)) h)
-
-  -- the newcomer stops before place i where the cost there is above its own
-  pub inserts_before : i < len → v.cost < (place s i).cost → insert v (drop i (unpack len s)) ≡ v ∷ drop i (unpack len s)
-  inserts_before l h = rw (rest_more s i len l) (insert_before v (place s i) (drop (i + 1) (unpack len s)) h)
+-- the three ways of a newcomer at place i
+pub ruleset inserts = (inserts_after, inserts_before, inserts_last)
 
 -- ---- the newcomer among the first n places
 
--- vertices with points of eight numbers, and a newcomer with one among them, have points of eight numbers
-pub whole_insert : (v : Vertex) (vs : List Vertex) → length v.point ≡ 8 → Whole vs → Whole (insert v vs)
-whole_insert v vs e h w m = ⊎_elim (λ s. rw s e) (h w) (mem_insert v vs m)
-
--- the first n vertices with the newcomer among them, once packed, are read again from n + 1 places
-pub unpack_inserted : (s : Simplex) (n : ℕ) (v : Vertex) → length s.points ≡ 72 → n ≤ 8 → length v.point ≡ 8 → unpack (n + 1) (pack (insert v (unpack n s))) ≡ insert v (unpack n s)
-unpack_inserted s n v h l e =
-    let vs = insert v (unpack n s) in
-    let m : n + 1 ≡ length vs = omega (arith, length_insert v (unpack n s), length_unpack n s) in
-    rw m (unpack_pack vs (whole_insert v (unpack n s) e (whole_unpack n s h (omega arith))))
+-- the newcomer among none is alone
+pub insert_none : (v : Vertex) (s : Simplex) → insert v (unpack 0 s) ≡ v ∷ []
+unfolding insert unpack up_to
+insert_none v s = refl
 
 -- the costs stay in range when a newcomer with a cost in range is put among the first n vertices
 pub capped_inserted : (s : Simplex) (n : ℕ) (v : Vertex) → v.cost ≤ max_cost → Capped s.costs → Capped (pack (insert v (unpack n s))).costs

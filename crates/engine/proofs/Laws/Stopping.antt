@@ -1,16 +1,18 @@
 -- Laws of the stopping rules: the sums of costs, the places from one on, and the rule by the movement already summed. Assumes nothing.
 use mathlib.Core.Path.{◌≡◌, refl}
 use mathlib.Core.Bool.{◌&&◌}
-use mathlib.Core.List.{List, [], ◌∷◌, ◌++◌, map, map-append, map-id}
-use Prim.Native.Nat.{ℕ, zero, suc, ◌+◌, ◌*◌, ◌≤◌, ◌<◌}
+use mathlib.Core.Logic.{◌≢◌}
+use mathlib.Core.List.{List, [], ◌∷◌, ◌++◌, map, map-append}
+use Prim.Native.Nat.{ℕ, zero, suc, ◌+◌, ◌≤◌, ◌<◌}
 use native.Mathlib.Numerals.{add-one}
 use native.Mathlib.Nat.{mul-le-mul}
 use native.Mathlib.Omega.{arith}
 use lib.ListN.{length, get_or, take, drop}
-use lib.Seq.{take-suc, drop-append-le}
-use lib.Ieee.{Float}
-use Rattle.rules.specs.Binary64.{0ᶠ, ◌⊗◌, ◌≤ᶠ◌}
+use lib.Seq.{take-suc, drop-append-le, length-take-le, get_or-take}
+use lib.Ieee.{Float, nan}
+use Rattle.rules.specs.Binary64.{0ᶠ, float, ◌⊗◌, ◌≤ᶠ◌, ◌<ᶠ◌}
 use Rattle.rules.specs.Numbers.{max_cost}
+use Rattle.engine.specs.Places.{Capped}
 use Rattle.rules.specs.Simplex.{up_to, point_of, place, unpack}
 use Rattle.rules.specs.Stop.{total, square, apart, movement, moved_met, norm, scale, all_within, size_met}
 use Rattle.rules.specs.Accept.{met}
@@ -19,7 +21,6 @@ use Rattle.rules.specs.declared.Vertex.{Vertex}
 use Rattle.rules.specs.declared.Rule.{Rule}
 use Rattle.rules.specs.declared.Rule.TheVariants.{Spread, Moved, Size}
 use Rattle.rules.proofs.Laws.Lists.{length_up_to}
-use Rattle.engine.specs.Places.{Capped}
 use Rattle.engine.specs.Finish.{piece_of, met_by}
 use Rattle.engine.specs.declared.stop.Piece as own
 use Rattle.engine.specs.declared.stop.Piece.TheVariants.{Build, Reflection, Expansion, Contraction, Shrink}
@@ -33,31 +34,58 @@ unfolding total
 total_more [] x = omega arith
 total_more (y ∷ xs) x = omega (arith, total_more xs x)
 
--- the sum of f over one cost more is the sum before and f of that cost
-pub sum_more : (f : ℕ → ℕ) (cs : List ℕ) (i : ℕ) → i < length cs → total (map f (take (i + 1) cs)) ≡ total (map f (take i cs)) + f (get_or cs i 0)
-sum_more f cs i h = rw (add-one, take-suc cs i 0 h, map-append f, total_more)
+-- the sum of one cost more is the sum before and that cost
+pub total_next : (cs : List ℕ) (i : ℕ) → i < length cs → total (take (i + 1) cs) ≡ total (take i cs) + get_or cs i 0
+total_next cs i h = rw (add-one, take-suc cs i 0 h, total_more)
 
--- the sum of f over the first i costs is at most i times b, where f of each is at most b
-sum_capped : (f : ℕ → ℕ) (b : ℕ) (cs : List ℕ) (i : ℕ) → ((j : ℕ) → f (get_or cs j 0) ≤ b) → total (map f (take i cs)) ≤ i * b
-unfolding total
-sum_capped f b cs zero h = omega arith
-sum_capped f b [] (suc i) h = omega arith
-sum_capped f b (c ∷ cs) (suc i) h = omega (arith, h 0, sum_capped f b cs i (λ (j : ℕ). h (suc j)))
+-- the sum of the squares of one cost more is the sum before and that cost squared
+pub squares_next : (cs : List ℕ) (i : ℕ) → i < length cs → total (map square (take (i + 1) cs)) ≡ total (map square (take i cs)) + square (get_or cs i 0)
+squares_next cs i h = rw (add-one, take-suc cs i 0 h, map-append square, total_more)
 
--- the sum of the first i costs is at most i times the largest cost, where each is in range
-pub plain_capped : (cs : List ℕ) (i : ℕ) → Capped cs → total (take i cs) ≤ i * max_cost
-plain_capped cs i h = rw map-id at (sum_capped (λ (x : ℕ). x) max_cost cs i h)
+-- a cost among the first m of costs in range is in range
+pub low_take : (cs : List ℕ) (m i : ℕ) → Capped cs → i < length (take m cs) → get_or (take m cs) i 0 ≤ max_cost
+low_take [] zero i h l = absurd (omega arith)
+low_take [] (suc m) i h l = absurd (omega arith)
+low_take (c ∷ cs) zero i h l = absurd (omega arith)
+low_take (c ∷ cs) (suc m) zero h l = h 0
+low_take (c ∷ cs) (suc m) (suc i) h l = low_take cs m i (λ (j : ℕ). h (suc j)) (omega arith)
 
--- the sum of the squares of the first i costs is at most i times the largest cost squared, where each is in range
-pub squares_capped : (cs : List ℕ) (i : ℕ) → Capped cs → total (map square (take i cs)) ≤ i * square max_cost
-squares_capped cs i h = sum_capped square (square max_cost) cs i (λ (j : ℕ). mul-le-mul (h j) (h j))
+-- the square of a cost in range
+pub square_low : (c : ℕ) → c ≤ max_cost → square c ≤ square max_cost
+square_low c h = mul-le-mul h h
+
+-- the laws that the sums of costs take
+pub ruleset sums = (total_next, squares_next, low_take, square_low)
+
+-- ---- points cut after n coordinates
+
+-- how far two points lie apart over the first k axes is how far their first n coordinates do, k being at most n
+apart_first : (x y : List Float) (t : Float) (n k : ℕ) → k ≤ n → apart (take n x) (take n y) t k ≡ apart x y t k
+unfolding apart
+apart_first x y t n zero h = refl
+apart_first x y t n (suc k) h = rw (apart_first x y t n k (omega arith), get_or-take n x k nan h, get_or-take n y k nan h)
+
+-- the sum of squared coordinates over the first k axes is that of the first n coordinates, k being at most n
+norm_first : (x : List Float) (n k : ℕ) → k ≤ n → norm (take n x) k ≡ norm x k
+unfolding norm
+norm_first x n zero h = refl
+norm_first x n (suc k) h = rw (norm_first x n k (omega arith), get_or-take n x k nan h)
+
+-- how far two points' first n coordinates lie apart
+pub apart_take : (x y : List Float) (t : Float) (n : ℕ) → n ≤ length x → apart (take n x) (take n y) t (length (take n x)) ≡ apart x y t n
+apart_take x y t n h = rw (length-take-le n x h) (apart_first x y t n n (omega arith))
+
+-- the sum of a point's first n squared coordinates
+pub norm_take : (x : List Float) (n : ℕ) → n ≤ length x → norm (take n x) (length (take n x)) ≡ norm x n
+norm_take x n h = rw (length-take-le n x h) (norm_first x n n (omega arith))
 
 -- ---- the places from one on
 
--- the test of the places from i on begins with that of place i, d being the square of its distance
-pub within_next : (n : ℕ) (limit : Float) (x1 : List Float) (s : Simplex) (i m : ℕ) (d : Float) → i < m → d ≡ apart (place s i).point x1 0ᶠ n → all_within n limit x1 (drop i (unpack m s)) ≡ (d ≤ᶠ limit) && all_within n limit x1 (drop (i + 1) (unpack m s))
+-- the test of the places from i on begins with that of place i, whose point is y and lies apart from x1 by the square root of d
+pub within_next : (n : ℕ) (limit : Float) (x1 : List Float) (s : Simplex) (i m : ℕ) (y : List Float) (d : Float) → i < m → n ≤ length y → y ≡ (place s i).point
+    → d ≡ apart (take n y) (take n x1) 0ᶠ (length (take n y)) → all_within n limit x1 (drop i (unpack m s)) ≡ (d ≤ᶠ limit) && all_within n limit x1 (drop (i + 1) (unpack m s))
 unfolding all_within
-within_next n limit x1 s i m d l h = rw (h, rest_more s i m l)
+within_next n limit x1 s i m y d l k e h = rw (rest_more s i m l, ← e, h, apart_take y x1 0ᶠ n k)
 
 -- the rule size at a simplex, q being the sum of squared coordinates of its first point
 pub size_at : (n : ℕ) (e : Float) (s : Simplex) (q : Float) → q ≡ norm (place s 0).point n → size_met n e (unpack (n + 1) s) ≡ all_within n ((e ⊗ e) ⊗ scale q) (place s 0).point (drop 1 (unpack (n + 1) s))
@@ -93,3 +121,12 @@ met_by_lem (Moved e) n Expansion old new vs = refl
 met_by_lem (Moved e) n Contraction old new vs = refl
 met_by_lem (Moved e) n Shrink old new vs = refl
 met_by_lem (Size e) n p old new vs = refl
+
+-- the rule moved at the end of an iteration
+pub met_by_moved : (e : Float) (n : ℕ) (p : own.Piece) (t : Float) (vs : List Vertex) → p ≢ Build → met_by (Moved e) n p t vs ≡ t <ᶠ e ⊗ float n
+unfolding met_by
+met_by_moved e n Build t vs h = absurd (h refl)
+met_by_moved e n Reflection t vs h = refl
+met_by_moved e n Expansion t vs h = refl
+met_by_moved e n Contraction t vs h = refl
+met_by_moved e n Shrink t vs h = refl

@@ -1,28 +1,28 @@
 -- `engine::ask` meets its contract: an accepted call has a sound search, whose phase fits. Assumes nothing.
-use mathlib.Core.Path.{◌≡◌, sym}
-use mathlib.Core.Bool.{true}
-use native.Mathlib.Omega.{arith}
+use Rattle.std.proofs.Common.{◌≡◌, true, sym, arith}
+use Rattle.std.proofs.lemmas.Result.{err_from_is_err_and}
 use Rattle.rules.specs.Calls.{sound, asking}
 use Rattle.rules.specs.Trial.{trial}
 use Rattle.engine.proofs.Laws.Sounding.{ask_sound, ready, fits, below}
 use Rattle.engine.proofs.ask.Goals as goal
 
-pub trial-point-requires : goal.trial-point-requires
-trial-point-requires c =
-    let s = c.args.search in
-    let h : sound s ≡ true = ask_sound s (sym c.in-Accepted.ensures) in
-    ((ready s h).low, (ready s h).high, fits s h)
+pub returns-in_err-ask_verdict : goal.returns-in_err-ask_verdict
+unfolding asking
+returns-in_err-ask_verdict c =
+    let p = err_from_is_err_and c.from_residual.result c.from_residual.ensures.1 in
+    rw (p.1, p.2, ← c.in_err-ask_verdict.ensures)
 
 pub overflow_add-result : goal.overflow_add-result
 overflow_add-result c =
-    let s = c.args.search in
-    omega (arith, below s (ask_sound s (sym c.in-Accepted.ensures)))
+    let s = c.args.search.now in
+    omega (arith, below s (ask_sound s (sym c.in_ok-ask_verdict.ensures)))
 
-pub returns-in-Accepted : goal.returns-in-Accepted
+pub trial-requires : goal.trial-requires
+trial-requires c =
+    let s = c.args.search.now in
+    let h : sound s ≡ true = ask_sound s (sym c.in_ok-ask_verdict.ensures) in
+    record { low = (ready s h).low; high = (ready s h).high; fits = fits s h }
+
+pub returns : goal.returns
 unfolding asking trial
-returns-in-Accepted c =
-    rw (← c.in-Accepted.ensures, c.trial-point.ensures)
-
-pub returns-in-Refused : goal.returns-in-Refused
-unfolding asking
-returns-in-Refused c = rw (← c.in-Refused.ensures) c.refused_ask.ensures
+returns c = rw (← c.in_ok-ask_verdict.ensures, c.trial.ensures)

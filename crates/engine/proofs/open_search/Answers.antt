@@ -2,10 +2,10 @@
 use Rattle.rules.specs.Opening.{opening}
 use Rattle.engine.proofs.open_search.Goals as goal
 
-pub returns-in-Accepted : goal.returns-in-Accepted
+pub returns-in-Ok : goal.returns-in-Ok
 unfolding opening
-returns-in-Accepted c = rw (← c.in-Accepted.ensures, c.fresh-search.ensures)
+returns-in-Ok c = rw (c.in-Ok.is, ← c.in-Ok.ensures, c.fresh-search.ensures)
 
-pub returns-in-Refused : goal.returns-in-Refused
+pub returns-in-Err : goal.returns-in-Err
 unfolding opening
-returns-in-Refused c = rw (← c.in-Refused.ensures, c.closed-search.ensures)
+returns-in-Err c = rw (c.in-Err.is, ← c.in-Err.ensures, c.closed-search.ensures)

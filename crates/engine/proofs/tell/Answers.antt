@@ -1,23 +1,24 @@
 -- `engine::tell` meets its contract: an accepted call has a sound search, whose phase fits, and a cost in range. Assumes nothing.
-use mathlib.Core.Path.{◌≡◌, sym}
-use mathlib.Core.Bool.{true}
-use Rattle.rules.specs.declared.Verdict.TheVariants.{Accepted}
+use Rattle.std.proofs.Common.{◌≡◌, true, Ok, sym}
+use Rattle.std.proofs.lemmas.Result.{err_from_is_err_and}
 use Rattle.rules.specs.Calls.{tell_verdict, sound, telling}
 use Rattle.engine.proofs.Laws.Sounding.{tell_sound, tell_low, ready, fits, below}
 use Rattle.engine.proofs.tell.Goals as goal
 
-pub accept-next-requires : goal.accept-next-requires
-accept-next-requires c =
+pub returns-in_err-tell_verdict : goal.returns-in_err-tell_verdict
+unfolding telling
+returns-in_err-tell_verdict c =
+    let p = err_from_is_err_and c.from_residual.result c.from_residual.ensures.1 in
+    record { verdict = rw (p.1, p.2, ← c.in_err-tell_verdict.ensures); search = rw (← c.in_err-tell_verdict.ensures) }
+
+pub accept-requires : goal.accept-requires
+accept-requires c =
     let a = c.args in
-    let s = a.search in
-    let v : tell_verdict s a.number a.cost ≡ Accepted = sym c.in-Accepted.ensures in
+    let s = a.search.now in
+    let v : tell_verdict s a.number a.cost ≡ Ok tt = sym c.in_ok-tell_verdict.ensures in
     let h : sound s ≡ true = tell_sound s a.number a.cost v in
     (ready s h, below s h, fits s h, tell_low s a.number a.cost v)
 
-pub returns-in-Accepted : goal.returns-in-Accepted
+pub returns : goal.returns
 unfolding telling
-returns-in-Accepted c = rw (← c.in-Accepted.ensures, c.accept-next.ensures)
-
-pub returns-in-Refused : goal.returns-in-Refused
-unfolding telling
-returns-in-Refused c = rw (← c.in-Refused.ensures) c.refused_tell.ensures
+returns c = record { verdict = rw (← c.in_ok-tell_verdict.ensures); search = rw (← c.in_ok-tell_verdict.ensures, c.accept.ensures) }

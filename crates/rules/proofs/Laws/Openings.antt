@@ -1,4 +1,5 @@
 -- What an opening that is not refused gives, and that an unfinished search asks within its limits. Assumes nothing.
+use Rattle.std.specs.Prelude.{Option, Ok, Err}
 use mathlib.Core.Path.{◌≡◌, refl, sym, ◌∙◌}
 use mathlib.Core.Bool.{Bool, true, false, true≢false, false≢true, and-eq-true_iff}
 use mathlib.Core.List.{List, [], ◌∷◌}
@@ -13,7 +14,7 @@ use borrow.Author.Tests.{leb-true}
 use Rattle.rules.specs.Binary64.{◌≤ᶠ◌, ◌<ᶠ◌}
 use Rattle.rules.specs.Numbers.{max_budget}
 use Rattle.rules.specs.Trial.{no_axis, axis, clamped, reflected, expanded, contracted, shrunk, built, probed, asked, trial}
-use Rattle.rules.specs.Refusals.{check}
+use Rattle.rules.specs.Refusals.{Verdict, check, answered}
 use Rattle.rules.specs.Opening.{in_threshold, axis_checks, axes_checks, rule_of, zero_axis, keep, fresh, opened_by, open_verdict, opening}
 use Rattle.rules.specs.Calls.{sound_rule, is_ended}
 use Rattle.rules.specs.Claims.{Within}
@@ -21,14 +22,11 @@ use Rattle.rules.specs.declared.Axis.{Axis}
 use Rattle.rules.specs.declared.Coefficients.{Coefficients}
 use Rattle.rules.specs.declared.Rule.{Rule}
 use Rattle.rules.specs.declared.Rule.TheVariants.{Spread, Moved, Size}
-use Rattle.rules.specs.declared.RuleChoice.{RuleChoice}
 use Rattle.rules.specs.declared.Phase.{Phase}
 use Rattle.rules.specs.declared.Phase.TheVariants.{Building, Reflecting, Expanding, Contracting, Shrinking, Probing, Ended}
 use Rattle.rules.specs.declared.Side.TheVariants.{Outside, Inside}
 use Rattle.rules.specs.declared.Setup.{Setup}
 use Rattle.rules.specs.declared.Search.{Search}
-use Rattle.rules.specs.declared.Verdict.{Verdict}
-use Rattle.rules.specs.declared.Verdict.TheVariants.{Accepted, Refused}
 use Rattle.rules.specs.declared.Refusal.{Refusal}
 use Rattle.rules.proofs.Laws.Lists.{get_or_point}
 use Rattle.rules.proofs.Laws.Clamp.{lt_le, clamp_low, clamp_high}
@@ -36,17 +34,22 @@ use Rattle.rules.proofs.Laws.Clamp.{lt_le, clamp_low, clamp_high}
 -- ---- checks that pass
 
 -- a check accepts where its test holds and those after it accept
-pub check_iff : (b : Bool) (r : Refusal) (v : Verdict) → (check b r v ≡ Accepted) ↔ ((b ≡ true) × (v ≡ Accepted))
+pub check_iff : (b : Bool) (r : Refusal) (v : Verdict) → (check b r v ≡ Ok tt) ↔ ((b ≡ true) × (v ≡ Ok tt))
 check_iff true r v = (λ h. (refl, h), λ h. h.1)
 check_iff false r v = (λ h. let z : ◌≡◌ {A = ℕ} 0 1 = cc in absurd (omega arith), λ h. absurd (false≢true h.0))
 
+-- a call that answers y has checks that pass, and y is what they let through
+pub answered_ok : {A : Type 0} (v : Verdict) (x y : A) → answered v x ≡ Ok y → (v ≡ Ok tt) × (y ≡ x)
+answered_ok (Ok _) x y e = (refl, cc)
+answered_ok (Err r) x y e = let none : ⊥ = cc in absurd none
+
 -- an axis that passes has lo < hi, and the checks after it accept
-axis_passes : (i : ℕ) (x : Axis) (v : Verdict) → axis_checks i x v ≡ Accepted → ((x.lo <ᶠ x.hi) ≡ true) × (v ≡ Accepted)
+axis_passes : (i : ℕ) (x : Axis) (v : Verdict) → axis_checks i x v ≡ Ok tt → ((x.lo <ᶠ x.hi) ≡ true) × (v ≡ Ok tt)
 axis_passes i x v h = let k = simp (check_iff, and-eq-true_iff) at h in search
 
 -- k axes from the i-th on that pass have lo < hi each, and the checks after them accept
-axes_pass : (k i : ℕ) (xs : List Axis) (v : Verdict) → axes_checks k i xs v ≡ Accepted
-    → ((a : ℕ) → i ≤ a → a < i + k → ((get_or xs a no_axis).lo <ᶠ (get_or xs a no_axis).hi) ≡ true) × (v ≡ Accepted)
+axes_pass : (k i : ℕ) (xs : List Axis) (v : Verdict) → axes_checks k i xs v ≡ Ok tt
+    → ((a : ℕ) → i ≤ a → a < i + k → ((get_or xs a no_axis).lo <ᶠ (get_or xs a no_axis).hi) ≡ true) × (v ≡ Ok tt)
 unfolding axes_checks
 axes_pass zero i xs v h = (λ a l u. absurd (omega arith), h)
 axes_pass (suc k) i xs v h =
@@ -62,8 +65,8 @@ threshold_sound (Size e) h = refl
 
 -- an answer carries the verdict that it is made by
 pub opened_by_verdict : (v : Verdict) (s : Search) → (opened_by v s).verdict ≡ v
-opened_by_verdict Accepted s = refl
-opened_by_verdict (Refused r) s = refl
+opened_by_verdict (Ok _) s = refl
+opened_by_verdict (Err r) s = refl
 
 -- ---- the axes that are kept
 
@@ -89,18 +92,18 @@ pub record Sane (t : Setup) : Type 0 where
   pub rule : sound_rule t.rule ≡ true
   pub limits : (a : ℕ) → a < t.n → ((axis t a).lo ≤ᶠ (axis t a).hi) ≡ true
 
-module _ (n : ℕ) (axes : List Axis) (rule : RuleChoice) (c : Coefficients) (budget : ℕ) where
+module _ (n : ℕ) (axes : List Axis) (rule : Option Rule) (c : Coefficients) (budget : ℕ) where
   -- where the answer to an opening accepts, the checks accept
-  pub opened_verdict : (opening n axes rule c budget).verdict ≡ Accepted → open_verdict n axes rule c budget ≡ Accepted
+  pub opened_verdict : (opening n axes rule c budget).verdict ≡ Ok tt → open_verdict n axes rule c budget ≡ Ok tt
   unfolding opening
   opened_verdict h = sym (opened_by_verdict (open_verdict n axes rule c budget) (fresh n axes rule c budget)) ∙ h
 
   -- where the answer to an opening accepts, its search is the fresh one
-  pub opened_fresh : (opening n axes rule c budget).verdict ≡ Accepted → (opening n axes rule c budget).search ≡ fresh n axes rule c budget
+  pub opened_fresh : (opening n axes rule c budget).verdict ≡ Ok tt → (opening n axes rule c budget).search ≡ fresh n axes rule c budget
   unfolding opening
   opened_fresh h = rw (opened_verdict h)
 
-  module _ (h : open_verdict n axes rule c budget ≡ Accepted) where
+  module _ (h : open_verdict n axes rule c budget ≡ Ok tt) where
     -- where the checks of an opening accept, each axis has lo < hi
     below : (a : ℕ) → a < n → ((get_or axes a no_axis).lo <ᶠ (get_or axes a no_axis).hi) ≡ true
     unfolding open_verdict

@@ -103,7 +103,7 @@ flat_append [] ws = refl
 flat_append (v ∷ vs) ws = rw (flat_append vs ws, append_assoc)
 
 -- the points of m places are the first 8 m numbers
-flat_unpack : (m : ℕ) (s : Simplex) → flat (unpack m s) ≡ take (8 * m) s.points
+pub flat_unpack : (m : ℕ) (s : Simplex) → flat (unpack m s) ≡ take (8 * m) s.points
 unfolding flat unpack up_to
 flat_unpack zero s = refl
 flat_unpack (suc m) s =

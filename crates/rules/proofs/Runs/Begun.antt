@@ -1,10 +1,11 @@
 -- What is true of the rules over every accepted history of a newly opened search. Assumes nothing.
+use Rattle.std.specs.Prelude.{Option}
 use mathlib.Core.Path.{◌≡◌, refl, sym, ap, ◌∙◌}
 use mathlib.Core.Bool.{cond}
 use mathlib.Core.List.{List, [], Memᴰ}
 use Prim.Native.Nat.{ℕ, zero, suc, ◌+◌, ◌<◌}
 use native.Mathlib.Omega.{arith}
-use lib.ListN.{length, get_or}
+use lib.ListN.{length}
 use lib.Dec.{eqb}
 use Rattle.rules.specs.Binary64.{0ᶠ}
 use borrow.Author.Tests.{ne_eqb}
@@ -14,9 +15,9 @@ use Rattle.rules.specs.Opening.{no_counts, fresh}
 use Rattle.rules.specs.Calls.{standing_of}
 use Rattle.rules.specs.History.{reading, EarliestLeast}
 use Rattle.rules.specs.Tally.{made, probes_in, open_in}
+use Rattle.rules.specs.declared.Rule.{Rule}
 use Rattle.rules.specs.declared.Axis.{Axis}
 use Rattle.rules.specs.declared.Coefficients.{Coefficients}
-use Rattle.rules.specs.declared.RuleChoice.{RuleChoice}
 use Rattle.rules.specs.declared.Vertex.{Vertex}
 use Rattle.rules.specs.declared.Search.{Search}
 use Rattle.rules.specs.declared.Phase.TheVariants.{Building}
@@ -35,7 +36,7 @@ pub record Begun (o : Search) : Type 0 where
   pub counts : o.counts ≡ no_counts
   pub phase : o.phase ≡ Building 0
 
-pub fresh_begun : (n : ℕ) (axes : List Axis) (rule : RuleChoice) (c : Coefficients) (budget : ℕ) → Sane (fresh n axes rule c budget).setup → Begun (fresh n axes rule c budget)
+pub fresh_begun : (n : ℕ) (axes : List Axis) (rule : Option Rule) (c : Coefficients) (budget : ℕ) → Sane (fresh n axes rule c budget).setup → Begun (fresh n axes rule c budget)
 unfolding fresh
 fresh_begun n axes rule c budget h = record { inv = fresh_inv n axes rule c budget h; below = fresh_below n axes rule c budget h; counts = refl; phase = refl }
 

@@ -1,55 +1,39 @@
 -- Calls on a search of the rules over an accepted history, and lists of them. Assumes nothing.
+use Rattle.std.specs.Prelude.{Ok, Err}
 use mathlib.Core.Path.{◌≡◌, refl, sym, ap, ◌∙◌}
 use mathlib.Core.Bool.{Bool, true, false, true≢false, cond, and-eq-true_iff}
 use mathlib.Core.List.{List, [], ◌∷◌, ◌++◌}
 use mathlib.Core.Logic.{◌↔◌}
 use Prim.Native.Nat.{ℕ, ◌+◌, ◌<◌}
 use native.Mathlib.Omega.{arith}
-use lib.ListN.{length, get_or}
+use lib.ListN.{length}
+use Rattle.rules.specs.Refusals.{Verdict}
 use Rattle.rules.specs.Binary64.{0ᶠ}
 use Rattle.rules.specs.Simplex.{first_of}
 use borrow.Author.Tests.{ne_eqb, not-true}
 use Rattle.rules.specs.Trial.{trial}
 use Rattle.rules.specs.Accept.{run}
-use Rattle.rules.specs.Calls.{is_ended, undamaged, ask_verdict, tell_verdict, best_verdict, asked_by, told_by, shown_by, asking, telling, showing}
+use Rattle.rules.specs.Calls.{is_ended, undamaged, ask_verdict, tell_verdict, best_verdict, told_by, asking, telling, showing}
 use Rattle.rules.specs.History.{Call, ask, tell, best, after1, after, joins, history1, history_from, reading, EarliestLeast}
 use Rattle.rules.specs.declared.Vertex.{Vertex}
 use Rattle.rules.specs.declared.Search.{Search}
-use Rattle.rules.specs.declared.Verdict.{Verdict}
-use Rattle.rules.specs.declared.Verdict.TheVariants.{Accepted, Refused}
+use Rattle.rules.specs.declared.Asked.{Asked}
 use Rattle.rules.proofs.Laws.Tests.{tests}
-use Rattle.rules.proofs.Laws.Openings.{check_iff}
+use Rattle.rules.proofs.Laws.Openings.{check_iff, answered_ok}
 use Rattle.rules.proofs.Laws.Histories.{Joined, joined_snoc, readings_of, run_snoc}
 use Rattle.rules.proofs.Runs.Sound.{never_damaged}
 use Rattle.rules.proofs.Runs.Begun.{Begun, whole_run, run_readings, run_best, best_shape}
 
 -- ---- answers by their verdict
 
-pub asked_verdict : (v : Verdict) (s : Search) → (asked_by v s).verdict ≡ v
-asked_verdict Accepted s = refl
-asked_verdict (Refused r) s = refl
-
-pub shown_verdict : (v : Verdict) (s : Search) → (shown_by v s).verdict ≡ v
-shown_verdict Accepted s = refl
-shown_verdict (Refused r) s = refl
-
 pub told_verdict : (v : Verdict) (s : Search) (c : ℕ) → (told_by v s c).verdict ≡ v
-told_verdict Accepted s c = refl
-told_verdict (Refused r) s c = refl
+told_verdict (Ok _) s c = refl
+told_verdict (Err r) s c = refl
 
 -- a refused tell returns the search as given
-pub told_refused : (v : Verdict) (s : Search) (c : ℕ) → (v ≡ Accepted → ⊥) → (told_by v s c).search ≡ s
-told_refused Accepted s c h = absurd (h refl)
-told_refused (Refused r) s c h = refl
-
--- ask and best always do
-pub asked_search : (v : Verdict) (s : Search) → (asked_by v s).search ≡ s
-asked_search Accepted s = refl
-asked_search (Refused r) s = refl
-
-pub shown_search : (v : Verdict) (s : Search) → (shown_by v s).search ≡ s
-shown_search Accepted s = refl
-shown_search (Refused r) s = refl
+pub told_refused : (v : Verdict) (s : Search) (c : ℕ) → (v ≡ Ok tt → ⊥) → (told_by v s c).search ≡ s
+told_refused (Ok _) s c h = absurd (h refl)
+told_refused (Err r) s c h = refl
 
 module _ (o : Search) (begun : Begun o) (h : List ℕ) (t : Joined o h) where
   -- refusal 12 is not given
@@ -59,50 +43,58 @@ module _ (o : Search) (begun : Begun o) (h : List ℕ) (t : Joined o h) where
   -- ---- tell
 
   -- a tell is accepted exactly when the history says so
-  tell_then_joins : (k c : ℕ) → tell_verdict (run o h) k c ≡ Accepted → joins o h k c ≡ true
+  tell_then_joins : (k c : ℕ) → tell_verdict (run o h) k c ≡ Ok tt → joins o h k c ≡ true
   unfolding tell_verdict
   tell_then_joins k c e =
       let p = simp check_iff at e in
       let n = run_readings o begun h t in
       simp and-eq-true_iff ((p.1.0, omega (arith, tests)), omega (arith, tests))
 
-  joins_then_tell : (k c : ℕ) → joins o h k c ≡ true → tell_verdict (run o h) k c ≡ Accepted
+  joins_then_tell : (k c : ℕ) → joins o h k c ≡ true → tell_verdict (run o h) k c ≡ Ok tt
   unfolding tell_verdict
   joins_then_tell k c e =
       let p = simp and-eq-true_iff at e in
       let n = run_readings o begun h t in
       simp check_iff (run_undamaged, (p.0.0, (omega (arith, tests), (omega (arith, tests), refl))))
 
-  pub tell_joins : (k c : ℕ) → (tell_verdict (run o h) k c ≡ Accepted) ↔ (joins o h k c ≡ true)
+  pub tell_joins : (k c : ℕ) → (tell_verdict (run o h) k c ≡ Ok tt) ↔ (joins o h k c ≡ true)
   tell_joins k c = (tell_then_joins k c, joins_then_tell k c)
 
-  pub telling_joins : (k c : ℕ) → ((telling (run o h) k c).verdict ≡ Accepted) ↔ (joins o h k c ≡ true)
+  pub telling_joins : (k c : ℕ) → ((telling (run o h) k c).verdict ≡ Ok tt) ↔ (joins o h k c ≡ true)
   unfolding telling
   telling_joins k c = rw (told_verdict (tell_verdict (run o h) k c) (run o h) c) (tell_joins k c)
 
   -- ---- ask
 
-  pub ask_accepted : is_ended (run o h).phase ≡ false → ask_verdict (run o h) ≡ Accepted
+  pub ask_accepted : is_ended (run o h).phase ≡ false → ask_verdict (run o h) ≡ Ok tt
   unfolding ask_verdict
   ask_accepted e = rw (run_undamaged, e)
 
-  pub asking_answers : is_ended (run o h).phase ≡ false → ((asking (run o h)).verdict ≡ Accepted) × ((asking (run o h)).number ≡ length h + 1) × ((asking (run o h)).point ≡ trial (run o h))
+  pub asking_answers : is_ended (run o h).phase ≡ false → asking (run o h) ≡ Ok (record { number = length h + 1; point = trial (run o h) })
   unfolding asking
-  asking_answers e = rw (ask_accepted e) (refl, rw (run_readings o begun h t), refl)
+  asking_answers e = rw (ask_accepted e, run_readings o begun h t)
+
+  -- ask answers only where the search has not ended, and its point is the trial of the rules
+  pub asked_trial : (a : Asked) → asking (run o h) ≡ Ok a → (is_ended (run o h).phase ≡ false) × (a.point ≡ trial (run o h))
+  unfolding asking ask_verdict
+  asked_trial a e =
+      let p = answered_ok (ask_verdict (run o h)) (record { number = (run o h).readings + 1; point = trial (run o h) }) a e in
+      let q = simp check_iff at p.0 in
+      (not-true (is_ended (run o h).phase) q.1.0, ap (λ (b : Asked). b.point) p.1)
 
   -- ---- best
 
-  pub best_accepted : 0 < length h → best_verdict (run o h) ≡ Accepted
+  pub best_accepted : 0 < length h → best_verdict (run o h) ≡ Ok tt
   unfolding best_verdict
   best_accepted l = rw (run_undamaged, ne_eqb (run o h).readings 0 (λ e. omega (arith, run_readings o begun h t)))
 
-  pub showing_best : 0 < length h → (k : ℕ) × EarliestLeast h k × ((showing (run o h)).verdict ≡ Accepted) × ((showing (run o h)).reading ≡ reading o h k)
+  pub showing_best : 0 < length h → (k : ℕ) × EarliestLeast h k × (showing (run o h) ≡ Ok (reading o h k))
   unfolding showing
   showing_best l =
       let b = run_best o begun h t l in
       let shape : ◌≡◌ {A = Vertex} (record { point = first_of (run o h).setup.n 0ᶠ (run o h).best.point; cost = (run o h).best.cost }) (run o h).best =
       λ i. record { point = best_shape o begun h t l i; cost = (run o h).best.cost } in
-      rw (best_accepted l) (b.0, b.1, refl, shape ∙ b.2)
+      rw (best_accepted l) (b.0, b.1, ap (λ (v : Vertex). Ok v) (shape ∙ b.2))
 
   -- ---- one call
 
@@ -116,9 +108,9 @@ module _ (o : Search) (begun : Begun o) (h : List ℕ) (t : Joined o h) where
   Follows c = Joined o (history1 o h c) × (after1 (run o h) c ≡ run o (history1 o h c))
 
   pub follows : (c : Call) → Follows c
-  unfolding asking showing telling
-  follows ask = (t, asked_search (ask_verdict (run o h)) (run o h))
-  follows best = (t, shown_search (best_verdict (run o h)) (run o h))
+  unfolding telling
+  follows ask = (t, refl)
+  follows best = (t, refl)
   follows (tell k c) = go (joins o h k c) refl
     where
       go : (b : Bool) → joins o h k c ≡ b → Joined o (cond b (h ++ c ∷ []) h) × ((told_by (tell_verdict (run o h) k c) (run o h) c).search ≡ run o (cond b (h ++ c ∷ []) h))

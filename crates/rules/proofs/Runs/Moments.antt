@@ -8,7 +8,6 @@ use native.Mathlib.Omega.{arith}
 use lib.ListN.{length, get_or, take, drop, length-append}
 use lib.Seq.{append_snoc, split_at}
 use Rattle.rules.specs.Numbers.{max_cost}
-use Rattle.rules.specs.Simplex.{point}
 use Rattle.rules.specs.Trial.{trial}
 use Rattle.rules.specs.Accept.{Piece, build, shrink, run}
 use Rattle.rules.specs.Calls.{is_ended, standing_of}

@@ -1,4 +1,5 @@
 -- The rules over a whole history: the invariant, the counts and the falling sum. Assumes nothing.
+use Rattle.std.specs.Prelude.{Option}
 use mathlib.Core.Path.{◌≡◌, refl, ap, ◌∙◌}
 use mathlib.Core.List.Memᴰ
 use mathlib.Core.List.{List, [], ◌∷◌, ◌++◌, append-nil}
@@ -10,9 +11,9 @@ use Rattle.rules.specs.Simplex.{Ordered}
 use Rattle.rules.specs.Accept.{Piece, build, reflection, expansion, contraction, shrink, accept, run}
 use Rattle.rules.specs.Opening.{fresh}
 use Rattle.rules.specs.Tally.{finishes, is_probe, pieces, count_of, probes_in, open_in}
+use Rattle.rules.specs.declared.Rule.{Rule}
 use Rattle.rules.specs.declared.Axis.{Axis}
 use Rattle.rules.specs.declared.Coefficients.{Coefficients}
-use Rattle.rules.specs.declared.RuleChoice.{RuleChoice}
 use Rattle.rules.specs.declared.Counts.{Counts}
 use Rattle.rules.specs.declared.Vertex.{Vertex}
 use Rattle.rules.specs.declared.Search.{Search}
@@ -90,7 +91,7 @@ ran rs s inv below (c ∷ h) t =
 
 -- ---- from the opening on
 
-module _ (n : ℕ) (axes : List Axis) (rule : RuleChoice) (c : Coefficients) (budget : ℕ) (sane : Sane (fresh n axes rule c budget).setup) where
+module _ (n : ℕ) (axes : List Axis) (rule : Option Rule) (c : Coefficients) (budget : ℕ) (sane : Sane (fresh n axes rule c budget).setup) where
   pub fresh_inv : Inv [] (fresh n axes rule c budget)
   unfolding fresh Ordered
   fresh_inv =

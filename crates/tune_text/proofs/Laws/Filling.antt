@@ -1,16 +1,13 @@
 -- Laws on a buffer that is filled with the lines of steps. Assumes nothing.
 use mathlib.Core.Path.{◌≡◌, refl}
-use mathlib.Core.Bool.{false, not, ◌&&◌, true≢false}
+use mathlib.Core.Bool.{false}
 use mathlib.Core.List.{List, ◌++◌}
 use mathlib.Core.Logic.{◌⊎◌, inl, inr, ⊎_elim}
-use Prim.Native.Nat.{ℕ, suc, ◌+◌, ◌≤◌, ◌<◌}
+use Prim.Native.Nat.{ℕ, suc, ◌≤◌, ◌<◌}
 use native.Mathlib.Omega.{arith}
 use lib.ListN.{length, take}
-use lib.Dec.{leb}
-use borrow.Author.Tests.{le-leb}
 use Rattle.tune_text.specs.Reading.{is_done}
-use Rattle.tune_text.specs.Steps.{stepping, state_after, printed, steps_left, Fills}
-use Rattle.tune_text.specs.Handed.{written}
+use Rattle.tune_text.specs.Steps.{stepping, state_after, printed, steps_left}
 use Rattle.tune_text.specs.declared.State.{State}
 use Rattle.tune_text.proofs.Laws.Running.{falls, state_after_more, printed_more}
 
@@ -31,22 +28,11 @@ module _ (bytes : List ℕ) (s : State) (buffer : List ℕ) where
   module _ (t : State) (count : ℕ) (h : Run bytes s buffer t count) where
     -- one step more
     pub run_more : is_done t.progress.stage ≡ false → (next : List ℕ) (k : ℕ)
-        → take k next ≡ take count buffer ++ written (stepping bytes t).text → k ≤ length next → Run bytes s next (stepping bytes t).state k
+        → take k next ≡ take count buffer ++ (stepping bytes t).line → k ≤ length next → Run bytes s next (stepping bytes t).state k
     run_more d next k e l = record {
       steps = suc h.steps;
       lines = rw (printed_more h.steps bytes s, ← h.state, ← h.lines) e;
       state = rw (state_after_more h.steps bytes s, ← h.state);
       within = l;
       begun = inr (⊎_elim (λ w. rw w.0 (falls bytes s (rw (← w.0) d))) (λ w. omega (arith, falls bytes t d)) h.begun);
-    }
-
-    -- the last step: nothing is left to do, or there is no room for one more line
-    pub run_last : leb (count + 192) (length buffer) && not (is_done t.progress.stage) ≡ false
-        → Fills bytes s buffer (record { state = t; count = count })
-    run_last e = record {
-      steps = h.steps;
-      lines = h.lines;
-      state = h.state;
-      within = h.within;
-      onward = λ d l. ⊎_elim (λ w. absurd (true≢false (rw (w.0, w.1, d, le-leb 192 (length buffer) l) at e))) (λ w. w) h.begun;
     }

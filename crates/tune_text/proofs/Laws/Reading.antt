@@ -1,53 +1,67 @@
 -- Laws on what a line of the input does. Assumes nothing.
+use Rattle.std.specs.Prelude.{Option, Ok, Err}
 use mathlib.Core.Path.{◌≡◌, refl, sym, ◌∙◌}
-use mathlib.Core.Bool.{Bool, true, ◌&&◌, and-eq-true_iff}
-use mathlib.Core.List.{List, [], ◌∷◌, ◌++◌}
-use Prim.Native.Nat.{ℕ, zero, suc, ◌-◌, ◌≤◌}
+use mathlib.Core.Bool.{◌&&◌, and-eq-true_iff}
+use mathlib.Core.List.{List}
+use Prim.Native.Nat.{ℕ, suc, ◌≤◌, ◌<◌}
 use native.Mathlib.Omega.{arith}
 use borrow.Author.Tests.{le-ltb, leb-true}
 use lib.ListN.{length, get_or, replicate}
 use lib.Seq.{set_out}
 use lib.Dec.{leb}
-use Rattle.rules.specs.Opening.{closed, opening, open_verdict}
+use Rattle.std.proofs.lemmas.List.{ext_get_or, get_or-replicate}
+use Rattle.std.specs.Array.{AllOfLen}
+use Rattle.rules.specs.Binary64.{0ᶠ}
+use Rattle.rules.specs.Refusals.{Verdict}
+use Rattle.rules.specs.Calls.{tell_verdict, told_by, telling}
+use Rattle.rules.specs.declared.Refusal.{Refusal}
+use Rattle.rules.specs.Opening.{zero_axis, closed, opening, open_verdict}
+use Rattle.rules.specs.declared.Rule.{Rule}
 use Rattle.rules.specs.declared.Axis.{Axis}
 use Rattle.rules.specs.declared.Coefficients.{Coefficients}
-use Rattle.rules.specs.declared.RuleChoice.{RuleChoice}
 use Rattle.rules.specs.declared.Search.{Search}
 use Rattle.rules.proofs.Laws.Tests.{cond_elim}
-use Rattle.tune_text.specs.Fields.{Form, is_line, values}
 use Rattle.tune_text.specs.Reading.{axis_lines, axes_read, with_axis}
-use Rattle.tune_text.specs.Handed.{numbers_read}
-use Rattle.tune_text.specs.declared.Numbers.{Numbers}
 use Rattle.tune_text.specs.declared.Request.{Request}
 
+-- an axis record of zeros
+abbrev IsZero : Axis → Type 0
+IsZero x = (x.lo ≡ 0ᶠ) × ((x.hi ≡ 0ᶠ) × ((x.start ≡ 0ᶠ) × (x.step ≡ 0ᶠ)))
+
+is_zero : (x : Axis) → IsZero x → x ≡ zero_axis
+is_zero x z =
+    let e : ◌≡◌ {A = Axis} (record { lo = x.lo; hi = x.hi; start = x.start; step = x.step }) zero_axis = rw (z.0, z.1.0, z.1.1.0, z.1.1.1) in e
+
+-- eight default axis records are zero records
+pub default_axes : (axes : List Axis) → AllOfLen IsZero axes 8 → axes ≡ replicate 8 zero_axis
+default_axes axes h =
+    ext_get_or zero_axis axes (replicate 8 zero_axis) h.long
+    (λ i l.
+    let i<8 : i < 8 = omega (arith, h.long) in
+    is_zero (get_or axes i zero_axis) (h.at i zero_axis i<8) ∙ sym (get_or-replicate 8 i zero_axis zero_axis i<8))
+
+-- a default request asks for nothing
+pub default_request :
+    (q : Request) → (q.n ≡ 0) × ((q.budget ≡ 0) × ((q.spread ≡ 0) × AllOfLen IsZero q.axes 8))
+    → q ≡ record { n = 0; budget = 0; spread = 0; axes = replicate 8 zero_axis }
+default_request q h =
+    let e :
+    ◌≡◌ {A = Request} (record { n = q.n; budget = q.budget; spread = q.spread; axes = q.axes })
+    (record { n = 0; budget = 0; spread = 0; axes = replicate 8 zero_axis }) = rw (h.0, h.1.0, h.1.1.0, default_axes q.axes h.1.1.1) in e
+
 -- an opening with no axis gives the closed search
-pub no_axis_closed : (axes : List Axis) (rule : RuleChoice) (c : Coefficients) (budget : ℕ) → (opening 0 axes rule c budget).search ≡ closed
+pub no_axis_closed : (axes : List Axis) (rule : Option Rule) (c : Coefficients) (budget : ℕ) → (opening 0 axes rule c budget).search ≡ closed
 unfolding opening open_verdict
 no_axis_closed axes rule c budget = refl
 
--- the numbers of a line are well where it has its form
-well_line : (f : Form) (k : ℕ) (line : List ℕ) → (numbers_read f k line).well ≡ is_line f k line
-unfolding numbers_read
-well_line f k line = cond_elim (λ (r : Numbers). r.well ≡ is_line f k line) (is_line f k line) (λ e. sym e) (λ e. sym e)
-
--- zeros after a list read 0, as does a list past its end
-get_or_zeros : (xs : List ℕ) (k i : ℕ) → get_or (xs ++ replicate k 0) i 0 ≡ get_or xs i 0
-get_or_zeros [] zero i = refl
-get_or_zeros [] (suc k) zero = refl
-get_or_zeros [] (suc k) (suc i) = get_or_zeros [] k i
-get_or_zeros (x ∷ xs) k zero = refl
-get_or_zeros (x ∷ xs) k (suc i) = get_or_zeros xs k i
-
--- what the numbers r that were read of a line tell of it
-module _ (f : Form) (k : ℕ) (line : List ℕ) {r : Numbers} (e : r ≡ numbers_read f k line) where
-  -- the line has its form or not as they say
-  pub is_line_lem : {b : Bool} → r.well ≡ b → is_line f k line ≡ b
-  is_line_lem h = sym (well_line f k line) ∙ rw e at h
-
-  -- where it has its form they are its numbers
-  pub number_read_lem : is_line f k line ≡ true → (i : ℕ) → get_or r.values i 0 ≡ get_or (values f line) i 0
-  unfolding numbers_read
-  number_read_lem h i = rw (e, h) (get_or_zeros (values f line) (4 - k) i)
+-- a refused tell leaves the search as it is
+pub told_unchanged : (s : Search) (number cost : ℕ) (r : Refusal) → (telling s number cost).verdict ≡ Err r → (telling s number cost).search ≡ s
+unfolding telling
+told_unchanged s number cost r e = go (tell_verdict s number cost) e
+  where
+    go : (v : Verdict) → (told_by v s cost).verdict ≡ Err r → (told_by v s cost).search ≡ s
+    go (Ok _) h = absurd (let none : ⊥ = cc in none)
+    go (Err _) h = refl
 
 -- no more than eight axis lines are read
 lines_bound : (n : ℕ) → axis_lines n ≤ 8

@@ -14,10 +14,8 @@ use Rattle.tune_text.specs.Fields.{newline}
 use Rattle.tune_text.specs.Lines.{bad_line}
 use Rattle.tune_text.specs.Reading.{line_read, last_line, is_over, is_done}
 use Rattle.tune_text.specs.Transcript.{longest, stopped}
-use Rattle.tune_text.specs.Steps.{last_step, passed, line_step, stepping, state_after, printed, steps_left}
-use Rattle.tune_text.specs.Handed.{text_of, written}
+use Rattle.tune_text.specs.Steps.{Stepped, last_step, passed, line_step, stepping, state_after, printed, steps_left}
 use Rattle.tune_text.specs.declared.State.{State}
-use Rattle.tune_text.specs.declared.Stepped.{Stepped}
 
 -- what is left of the input
 abbrev left : List ℕ → State → List ℕ
@@ -29,7 +27,7 @@ line_end bytes s = index_of newline (left bytes s)
 
 -- what holds in every case of a step holds of it
 pub step_cases : (bytes : List ℕ) (s : State) (P : Stepped → Type 0)
-    → (is_done s.progress.stage ≡ true → P (record { state = s; text = text_of [] }))
+    → (is_done s.progress.stage ≡ true → P (record { state = s; line = [] }))
     → (is_done s.progress.stage ≡ false → longest < length bytes → P (last_step s (bad_line 0)))
     → (is_done s.progress.stage ≡ false → length bytes ≤ longest → is_over s.progress.stage s.progress.search ≡ true
     → P (last_step s (last_line s.progress.stage s.progress.search)))
@@ -50,7 +48,7 @@ step_cases bytes s P done long over line last =
     (λ e. long d (leb-false _ _ e)))
 
 -- a step once all is done prints nothing and changes nothing
-pub step_done : (bytes : List ℕ) (s : State) → is_done s.progress.stage ≡ true → stepping bytes s ≡ record { state = s; text = text_of [] }
+pub step_done : (bytes : List ℕ) (s : State) → is_done s.progress.stage ≡ true → stepping bytes s ≡ record { state = s; line = [] }
 unfolding stepping
 step_done bytes s d = rw d
 
@@ -114,7 +112,7 @@ state_after_more (suc k) bytes s = state_after_more k bytes (stepping bytes s).s
 
 -- the lines of k + 1 steps are those of k steps and the line of the last
 pub printed_more : (k : ℕ) (bytes : List ℕ) (s : State)
-    → printed (suc k) bytes s ≡ printed k bytes s ++ written (stepping bytes (state_after k bytes s)).text
+    → printed (suc k) bytes s ≡ printed k bytes s ++ (stepping bytes (state_after k bytes s)).line
 unfolding state_after printed
 printed_more zero bytes s = append-nil _
 printed_more (suc k) bytes s = rw (printed_more k bytes (stepping bytes s).state) (simp append_assoc)

@@ -1,171 +1,117 @@
--- Laws on reading a line field by field: what its numbers are where its first fields are read. Assumes nothing.
-use mathlib.Core.Path.{◌≡◌, refl, sym, ap, ◌∙◌}
-use mathlib.Core.Bool.{Bool, true, false, not, ◌&&◌, beq, cond, and-false, true≢false, false≢true}
+-- Laws on reading a line field by field: what `split` gives next, and what the fields that are left say of the line's numbers. Assumes nothing.
+use mathlib.Core.Path.{◌≡◌, refl, sym, ap, subst, ◌∙◌}
+use mathlib.Core.Bool.{Bool, true, false, not, cond, ◌&&◌, and-false}
 use mathlib.Core.List.{List, [], ◌∷◌, ◌++◌, map, append-nil}
-use mathlib.Core.Logic.{◌⊎◌, inl, inr, ⊎_elim}
-use Prim.Native.Nat.{ℕ, suc, ◌+◌, ◌-◌, ◌≤◌, ◌<◌}
+use Prim.Native.Nat.{ℕ, suc, ◌+◌, ◌≤◌, ◌<◌}
 use native.Mathlib.Nat.{zero-add}
-use native.Mathlib.Numerals.{add-one}
 use native.Mathlib.Omega.{arith}
 use lib.Dec.{eqb}
-use lib.ListN.{length, take, drop, set, replicate, length-set, take-append-drop}
-use lib.Seq.{take-suc-set, drop-set-lt, drop-drop, append_snoc}
-use borrow.Author.Tests.{eqb-true, eqb-false, eq-eqb, ne_eqb}
-use Rattle.std.specs.Prelude.{slice_range}
-use Rattle.rules.proofs.Laws.Order.{le_or_lt}
-use Rattle.tune_text.specs.Scan.{index_of}
+use lib.ListN.{length, take, get_or, set, length-append}
+use lib.Seq.{append_snoc, take_all}
+use borrow.Author.Tests.{eq-eqb, ne_eqb}
+use denote.Param.Members.{Mut}
+use denote.Ref.{Bor}
+use Rattle.std.specs.Prelude.{Option, Some, None}
+use Rattle.std.specs.Bool.{MatchBool, then_some}
+use Rattle.std.specs.Option.{MatchOption, is_some}
+use Rattle.std.specs.Fn.{CalledAt, ComputesKey}
+use Rattle.std.specs.List.{All, list_all, slice_split, IsFirstMatchOrLen}
+use Rattle.std.specs.Slice.Iter.{split_steps, split_rest, split_done, split_callee}
+use Rattle.std.specs.declared.slice.Split.{Split}
+use Rattle.std.proofs.lemmas.Grind.{common_steps}
+use Rattle.std.proofs.lemmas.Fn.{always_returns_same}
+use Rattle.std.proofs.lemmas.Option.{cond_some}
+use Rattle.std.proofs.lemmas.List.{take_more_set, length-take-le}
+use Rattle.std.proofs.lemmas.List.Splits.{slice_split_none, slice_split_at}
+use Rattle.tune_text.specs.Fields.{space, cut, is_number, is_line, field_value}
 use Rattle.tune_text.specs.Handed.{number_read, numbers_read}
-use Rattle.tune_text.specs.declared.Number.{Number}
-use Rattle.tune_text.specs.declared.Numbers.{Numbers}
-use Rattle.tune_text.specs.Fields.{space, cut, Form, is_number, all_numbers, is_line, field_value}
-use Rattle.tune_text.proofs.Laws.Cutting.{cut_next, cut_end, cut_some, number_test, number_well}
+use Rattle.tune_text.specs.declared.fields.Form.{Form}
 
--- ---- what reading a line gives
+-- ---- what `split` gives next
 
--- what reading a malformed line gives
-abbrev pub bad : Numbers
-bad = record { well = false; values = replicate 4 0 }
+-- the fields that a `split` has still to give
+abbrev pub left : {F : Type 0} → Split ℕ F → List (List ℕ)
+left s = cond (split_done s) [] (cut space (split_rest s))
 
--- what reading a line gives whose first i fields gave the numbers in front, where the fields ps are left
-pub outcome : Form → ℕ → ℕ → List ℕ → List (List ℕ) → Numbers
-outcome f k i front ps =
-    cond (eqb (i + length ps) k && all_numbers f ps)
-    (record { well = true; values = front ++ map (field_value f) ps ++ replicate (4 - k) 0 })
-    bad
+-- a text by its first field, x, and the rest of the text, where it is not done
+first_field : (xs x rest : List ℕ) (done : Bool) → MatchBool done (xs ≡ x) ((y : ℕ) × (xs ≡ x ++ (y ∷ rest))) → IsFirstMatchOrLen (λ b. eqb b space) xs (length x)
+    → cut space xs ≡ x ∷ cond done [] (cut space rest)
+unfolding cut
+first_field xs x rest true e h =
+    ap (slice_split (λ b. eqb b space)) e ∙ slice_split_none (λ b. eqb b space) x (λ k d l. subst (λ ys. eqb (get_or ys k d) space ≡ false) e (h.0 k d (omega arith) l))
+first_field xs x rest false e h =
+    let front : All (λ b. eqb b space ≡ false) x = λ k d l. let a = h.0 k d (omega arith) l in let b = e.1 in grind (arith, common_steps) in
+    let hit : eqb e.0 space ≡ true = let b = e.1 in let a = h.1 (grind (arith, common_steps)) e.0 in grind (arith, common_steps) in
+    ap (slice_split (λ b. eqb b space)) e.1 ∙ slice_split_at (λ b. eqb b space) x e.0 rest front hit
+
+-- where it gives a field, that is the first that is left
+pub first_left : {F : Type 0} (g : Mut F (Bor ℕ × Unit {0}) Bool) (s u : Split ℕ F) (x : Bor (List ℕ)) → split_steps g s (Some x) u
+    → ((y : ℕ) (b : Bool) (q : F) → CalledAt g (split_callee s) y b q → (q ≡ split_callee s) × (b ≡ eqb y space)) → left s ≡ x.now ∷ left u
+first_left g s u x next test =
+    let computes : ComputesKey g (λ b. eqb b space) (split_callee s) =
+    always_returns_same g _ (split_callee s) (λ a r q k. let m = test a.0.now r q (record { shown = a.0; shows = refl; called = k }) in (m.1, m.0)) in
+    rw next.0 (first_field (split_rest s) x.now (split_rest u) (split_done u) next.1 (next.2 (λ b. eqb b space) computes).1)
+
+-- whether it gives one says whether one is left
+pub some_left : {F : Type 0} (g : Mut F (Bor ℕ × Unit {0}) Bool) (s u : Split ℕ F) (r : Option (Bor (List ℕ))) → split_steps g s r u
+    → ((y : ℕ) (b : Bool) (q : F) → CalledAt g (split_callee s) y b q → (q ≡ split_callee s) × (b ≡ eqb y space))
+    → MatchOption r (left s ≡ []) (λ x. 0 < length (left s))
+some_left g s u None next test = rw next.0
+some_left g s u (Some x) next test = rw (first_left g s u x next test) (omega arith)
+
+-- ---- the numbers of a line
+
+-- a field that gives no number has another form
+number_none : (f : Form) (p : List ℕ) → None ≡ number_read f p → is_number f p ≡ false
+number_none f p = go (is_number f p)
+  where
+    go : (b : Bool) → ◌≡◌ {A = Option ℕ} None (cond b (Some (field_value f p)) None) → b ≡ false
+    go true e = cc
+    go false e = refl
+
+-- the numbers of a line of k fields whose first fields have the numbers in front, and whose others are ps
+pub outcome : Form → ℕ → List ℕ → List (List ℕ) → Option (List ℕ)
+outcome f k front ps = cond (eqb (length front + length ps) k && list_all (is_number f) ps) (Some (front ++ map (field_value f) ps)) None
 
 module _ (f : Form) (k : ℕ) where
-  -- reading a line gives the `outcome` of no field read and all fields left
-  pub outcome_first : (line : List ℕ) → numbers_read f k line ≡ outcome f k 0 [] (cut space line)
+  -- at first all fields are left
+  pub outcome_first : (line : List ℕ) → numbers_read f k line ≡ outcome f k [] (cut space line)
   unfolding numbers_read is_line outcome
   outcome_first line = rw zero-add
 
-  module _ (i : ℕ) (front : List ℕ) where
-    -- a line with a field of another form is malformed
-    outcome_ill : (p : List ℕ) (ps : List (List ℕ)) → is_number f p ≡ false → outcome f k i front (p ∷ ps) ≡ bad
-    unfolding outcome all_numbers
-    outcome_ill p ps e = rw (e, and-false (eqb (i + suc (length ps)) k))
+  -- a line of too few fields or too many has no numbers
+  outcome_count : (front : List ℕ) (ps : List (List ℕ)) → (length front + length ps ≡ k → ⊥) → outcome f k front ps ≡ None
+  unfolding outcome
+  outcome_count front ps h = rw (ne_eqb (length front + length ps) k h)
 
-    -- a line of too few fields or too many is malformed
-    outcome_count : (ps : List (List ℕ)) → (i + length ps ≡ k → ⊥) → outcome f k i front ps ≡ bad
-    unfolding outcome
-    outcome_count ps h = rw (ne_eqb (i + length ps) k h)
+  -- nor has one with a field of another form
+  pub outcome_other : (front p : List ℕ) (ps : List (List ℕ)) → None ≡ number_read f p → outcome f k front (p ∷ ps) ≡ None
+  unfolding outcome
+  outcome_other front p ps e = rw (number_none f p e, and-false (eqb (length front + suc (length ps)) k))
 
-    -- reading one field more leaves the outcome of the line
-    outcome_more : (p : List ℕ) (ps : List (List ℕ)) → is_number f p ≡ true
-        → outcome f k i front (p ∷ ps) ≡ outcome f k (i + 1) (front ++ (field_value f p ∷ [])) ps
-    unfolding outcome all_numbers
-    outcome_more p ps e =
-        let n : i + suc (length ps) ≡ i + 1 + length ps = omega arith in
-        rw (n, e, append_snoc)
+  -- where no field is left before field k there are too few
+  pub outcome_few : (vs : List ℕ) (i : ℕ) → length vs ≡ k → i < k → outcome f k (take i vs) [] ≡ None
+  outcome_few vs i l h = outcome_count (take i vs) [] (λ e. omega (arith, length-take-le {A = ℕ}))
 
-    -- where k fields are read and none is left, the outcome is their numbers and zeros
-    outcome_none : i ≡ k → outcome f k i front [] ≡ record { well = true; values = front ++ replicate (4 - k) 0 }
-    unfolding outcome all_numbers
-    outcome_none h =
-        let n : i + 0 ≡ k = omega arith in
-        rw (eq-eqb (i + 0) k n, append-nil)
+  -- the number of the next field goes behind those before it
+  pub outcome_more : (vs : List ℕ) (i v : ℕ) (p : List ℕ) (ps : List (List ℕ)) → i < length vs → Some v ≡ number_read f p
+      → outcome f k (take i vs) (p ∷ ps) ≡ outcome f k (take (i + 1) (set vs i v)) ps
+  unfolding outcome
+  outcome_more vs i v p ps h e =
+      let is = cond_some (is_number f p) (field_value f p) v (sym e) in
+      let n : length (take i vs) + suc (length ps) ≡ length (take i vs ++ (v ∷ [])) + length ps = simp length-append (omega arith) in
+      rw (take_more_set vs i v h, n, is.0, ← is.1, append_snoc)
 
--- ---- one turn
-
--- i fields are read and gave the first i of the numbers vs, and the next field begins at from
-pub record Going (f : Form) (k : ℕ) (line vs : List ℕ) (from i : ℕ) : Type 0 where
-  pub within : i < k → from ≤ length line
-  pub gives : i < k → numbers_read f k line ≡ outcome f k i (take i vs) (cut space (drop from line))
-  pub ends : k ≤ i → numbers_read f k line ≡ record { well = true; values = vs }
-  pub four : length vs ≡ 4
-  pub zeros : drop i vs ≡ replicate (4 - i) 0
-
--- of two truth values that differ, one is true and the other false
-differ : (a b : Bool) → not (beq a b) ≡ true → ((a ≡ true) × (b ≡ false)) ⊎ ((a ≡ false) × (b ≡ true))
-differ true true e = absurd (false≢true e)
-differ true false e = inl (refl, refl)
-differ false true e = inr (refl, refl)
-differ false false e = absurd (false≢true e)
-
--- two truth values that do not differ are equal
-agree : (a b : Bool) → not (beq a b) ≡ false → a ≡ b
-agree true true e = refl
-agree true false e = absurd (true≢false e)
-agree false true e = absurd (true≢false e)
-agree false false e = refl
-
--- v put after i of four numbers
-module _ (vs : List ℕ) (i v : ℕ) (four : length vs ≡ 4) (room : i < 4) where
-  take_more : take (i + 1) (set vs i v) ≡ take i vs ++ (v ∷ [])
-  take_more = rw add-one (take-suc-set vs i v (omega arith))
-
-  zeros_more : drop i vs ≡ replicate (4 - i) 0 → drop (i + 1) (set vs i v) ≡ replicate (4 - (i + 1)) 0
-  zeros_more z =
-      let n : 4 - i ≡ suc (4 - (i + 1)) = omega arith in
-      drop-set-lt (i + 1) vs i v (omega arith) ∙ sym (drop-drop 1 i vs) ∙ rw (z, n)
-
--- a turn in which the next field, p, goes up to end, and n is what reading it gives
-module _ (f : Form) (k : ℕ) (line vs : List ℕ) (from i end : ℕ) (n : Number) where
-  pub record Turn : Type 0 where
-    pub going : Going f k line vs from i
-    pub more : i < k
-    pub found : end ≡ from + index_of space (slice_range line from (length line))
-    pub inside : end ≤ length line
-    pub got : n ≡ number_read f (take (end - from) (drop from line))
-
-  module _ (t : Turn) where
-    -- where the next field ends before the line does, that field and those after it are left
-    gives_next : end < length line → numbers_read f k line ≡ outcome f k i (take i vs) (take (end - from) (drop from line) ∷ cut space (drop (end + 1) line))
-    gives_next h = t.going.gives t.more ∙ ap (outcome f k i (take i vs)) (cut_next space line from end (t.going.within t.more) t.found h)
-
-    -- where the next field ends with the line, that field alone is left
-    gives_last : length line ≤ end → numbers_read f k line ≡ outcome f k i (take i vs) (take (end - from) (drop from line) ∷ [])
-    gives_last h = t.going.gives t.more ∙ ap (outcome f k i (take i vs)) (cut_end space line from end (t.going.within t.more) t.found h)
-
-    -- n says whether the next field has the form
-    test : is_number f (take (end - from) (drop from line)) ≡ n.well
-    test = sym (number_test f (take (end - from) (drop from line))) ∙ ap (λ (m : Number). m.well) (sym t.got)
-
-    -- a line whose next field has another form is malformed
-    pub refuses_form : n.well ≡ false → numbers_read f k line ≡ bad
-    refuses_form e =
-        let p = take (end - from) (drop from line) in
-        ⊎_elim
-        (λ h. gives_last h ∙ outcome_ill f k i (take i vs) p [] (test ∙ e))
-        (λ h. gives_next h ∙ outcome_ill f k i (take i vs) p (cut space (drop (end + 1) line)) (test ∙ e))
-        (le_or_lt (length line) end)
-
-    -- a line is malformed where fields are left after field k, or none is left after an earlier field
-    pub refuses_count : not (beq (eqb (i + 1) k) (eqb end (length line))) ≡ true → numbers_read f k line ≡ bad
-    refuses_count e =
-        let p = take (end - from) (drop from line) in
-        let ps = cut space (drop (end + 1) line) in
-        ⊎_elim
-        (λ w.
-        let last : i + 1 ≡ k = eqb-true (i + 1) k w.0 in
-        let h : end < length line = omega (arith, t.inside, eqb-false end (length line) w.1) in
-        gives_next h ∙ outcome_count f k i (take i vs) (p ∷ ps) (λ q. omega (arith, cut_some space (drop (end + 1) line))))
-        (λ w.
-        let h : length line ≤ end = omega (arith, eqb-true end (length line) w.1) in
-        gives_last h ∙ outcome_count f k i (take i vs) (p ∷ []) (λ q. eqb-false (i + 1) k w.0 (omega arith)))
-        (differ (eqb (i + 1) k) (eqb end (length line)) e)
-
-    -- the number of a next field that is not refused is put after those of the fields before it
-    pub goes_on : n.well ≡ true → not (beq (eqb (i + 1) k) (eqb end (length line))) ≡ false → k ≤ 4
-        → Going f k line (set vs i n.value) (end + 1) (i + 1)
-    goes_on e d room =
-        let p = take (end - from) (drop from line) in
-        let us = set vs i n.value in
-        let is : is_number f p ≡ true = test ∙ e in
-        let v : n.value ≡ field_value f p = ap (λ (m : Number). m.value) (t.got ∙ number_well f p is) in
-        let same : eqb end (length line) ≡ eqb (i + 1) k = sym (agree (eqb (i + 1) k) (eqb end (length line)) d) in
-        let i<4 : i < 4 = omega (arith, t.more) in
-        let front : take i vs ++ (field_value f p ∷ []) ≡ take (i + 1) us = rw v (sym (take_more vs i (field_value f p) t.going.four i<4)) in
-        let zeros : drop (i + 1) us ≡ replicate (4 - (i + 1)) 0 = zeros_more vs i n.value t.going.four i<4 t.going.zeros in
-        let before : i + 1 < k → end < length line = λ h. omega (arith, t.inside, eqb-false end (length line) (same ∙ ne_eqb (i + 1) k (omega arith))) in
-        record {
-          within = λ h. omega (arith, before h);
-          gives = λ h. gives_next (before h) ∙ outcome_more f k i (take i vs) p (cut space (drop (end + 1) line)) is ∙ rw front;
-          ends = λ h.
-              let last : i + 1 ≡ k = omega (arith, t.more) in
-              let l : length line ≤ end = omega (arith, eqb-true end (length line) (same ∙ eq-eqb (i + 1) k last)) in
-              let whole : take (i + 1) us ++ replicate (4 - k) 0 ≡ us = rw (← last, ← zeros) (take-append-drop (i + 1) us) in
-              gives_last l ∙ outcome_more f k i (take i vs) p [] is ∙ outcome_none f k (i + 1) (take i vs ++ (field_value f p ∷ [])) last ∙ rw (front, whole);
-          four = length-set vs i n.value ∙ t.going.four;
-          zeros = zeros;
-        }
+  -- after field k the numbers of the k fields are the line's, if no field is left
+  pub outcome_last : (vs : List ℕ) (i : ℕ) (r : Option (Bor (List ℕ))) (b : Bool) (ps : List (List ℕ)) → length vs ≡ k → k ≤ i
+      → MatchOption r (ps ≡ []) (λ x. 0 < length ps) → is_some r ≡ not b → outcome f k (take i vs) ps ≡ then_some b vs
+  unfolding outcome
+  outcome_last vs i None true ps l h e t =
+      let n : length vs + 0 ≡ k = omega arith in
+      let m : length vs ≤ i = omega arith in
+      rw (e, take_all i vs m, eq-eqb (length vs + 0) k n, append-nil)
+  outcome_last vs i (Some x) false ps l h e t =
+      let m : length vs ≤ i = omega arith in
+      rw (take_all i vs m) (outcome_count vs ps (λ q. omega arith))
+  outcome_last vs i None false ps l h e t = cc
+  outcome_last vs i (Some x) true ps l h e t = cc

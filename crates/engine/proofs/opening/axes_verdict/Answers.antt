@@ -1,25 +1,20 @@
--- `engine::opening::axes_verdict` meets its contract, by what its loop keeps. Assumes nothing.
-use mathlib.Core.Path.{◌≡◌, sym, ◌∙◌}
-use Prim.Native.Nat.{◌-◌}
-use native.Mathlib.Omega.{arith}
+-- `engine::opening::axes_verdict` meets its contract: the first axis that is refused gives the verdict. Assumes nothing.
+use Rattle.std.proofs.Common.{◌≡◌, ◌-◌, ◌∙◌, sym, Ok, Err, arith}
+use Rattle.std.proofs.lemmas.Result.{err_from_is_err_and}
 use Rattle.rules.specs.Opening.{axes_checks}
-use Rattle.rules.specs.declared.Verdict.TheVariants.{Accepted, Refused}
 use Rattle.engine.proofs.Laws.Opening.{axes_first}
 use Rattle.engine.proofs.opening.axes_verdict.Goals as goal
 
-pub loop-left-init : goal.loop-left-init
-loop-left-init c =
-    let none : c.args.n - c.args.n ≡ 0 = omega arith in
-    (omega arith, omega arith, rw none)
+pub loop-i-preserved : goal.loop-i-preserved
+loop-i-preserved c = c.loop-i.invariant ∙ axes_first c.args.n c.loop-i.i c.args.axes.now (Ok _) (Ok tt) (omega arith) c.in_ok-axis_verdict.ensures
 
-pub loop-left-preserved : goal.loop-left-preserved
-loop-left-preserved c = (omega arith, omega arith, c.loop-left.invariant.2 ∙ axes_first c.args.n c.loop-left.left c.args.axes Accepted Accepted (omega arith) (omega arith) c.in-Accepted.ensures)
-
-pub returns-in-Refused : goal.returns-in-Refused
-returns-in-Refused c = sym (c.loop-left.invariant.2 ∙ axes_first c.args.n c.loop-left.left c.args.axes (Refused _) Accepted (omega arith) (omega arith) c.in-Refused.ensures)
+pub returns-in_err-axis_verdict : goal.returns-in_err-axis_verdict
+returns-in_err-axis_verdict c =
+    let p = err_from_is_err_and c.from_residual.result c.from_residual.ensures.1 in
+    rw (p.1, p.2) (sym (c.loop-i.invariant ∙ axes_first c.args.n c.loop-i.i c.args.axes.now (Err _) (Ok tt) (omega arith) c.in_err-axis_verdict.ensures))
 
 pub returns : goal.returns
 unfolding axes_checks
 returns c =
-    let none : c.loop-left.left ≡ 0 = omega arith in
-    rw (c.loop-left.invariant.2, none)
+    let none : c.args.n - c.loop-i.i ≡ 0 = omega arith in
+    rw (c.loop-i.invariant, none)

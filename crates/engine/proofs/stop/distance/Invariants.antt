@@ -1,11 +1,7 @@
 -- The loop of `engine::stop::distance` keeps that the sum is that over the first a axes.
-use mathlib.Core.Path.{◌≡◌}
-use Prim.Native.Nat.{◌-◌, ◌≤◌}
+use Rattle.std.proofs.Common.{◌≡◌}
 use Rattle.rules.specs.Stop.{apart}
 use Rattle.engine.proofs.stop.distance.Given as goal
 
 abbrev pub invariant-loop-a : goal.invariant-loop-a
-invariant-loop-a l = (l.n ≤ 8) × (l.a ≤ l.n) × (l.sum ≡ apart l.x l.y l.from l.a)
-
-abbrev pub decreases-loop-a : goal.decreases-loop-a
-decreases-loop-a l = l.n - l.a
+invariant-loop-a l = l.sum ≡ apart l.x l.y l.from l.a

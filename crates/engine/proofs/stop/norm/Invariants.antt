@@ -1,11 +1,7 @@
--- The loop of `engine::stop::norm` keeps that the sum is that over the first a axes.
-use mathlib.Core.Path.{◌≡◌}
-use Prim.Native.Nat.{◌-◌, ◌≤◌}
+-- The loop of `engine::stop::norm` keeps that the sum is that over the axes so far.
+use Rattle.std.proofs.Common.{◌≡◌}
 use Rattle.rules.specs.Stop.{norm}
 use Rattle.engine.proofs.stop.norm.Given as goal
 
-abbrev pub invariant-loop-a : goal.invariant-loop-a
-invariant-loop-a l = (l.n ≤ 8) × (l.a ≤ l.n) × (l.sum ≡ norm l.x l.a)
-
-abbrev pub decreases-loop-a : goal.decreases-loop-a
-decreases-loop-a l = l.n - l.a
+abbrev pub invariant-loop-x : goal.invariant-loop-x
+invariant-loop-x l = l.sum ≡ norm l.x l.x-index

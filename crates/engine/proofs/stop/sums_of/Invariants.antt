@@ -1,14 +1,14 @@
--- The loop of `engine::stop::sums_of` keeps that the sums are those of the first i costs, all in range.
-use mathlib.Core.Path.{◌≡◌}
-use mathlib.Core.List.{map}
-use Prim.Native.Nat.{◌-◌, ◌≤◌}
-use lib.ListN.{take}
+-- The loop of `engine::stop::sums_of` keeps that the sums are those of the costs so far, all in range.
+use Rattle.std.proofs.Common.{◌≡◌, ◌*◌, ◌≤◌, map, take}
+use Rattle.rules.specs.Numbers.{max_cost}
 use Rattle.rules.specs.Stop.{total, square}
-use Rattle.engine.specs.Places.{Capped}
 use Rattle.engine.proofs.stop.sums_of.Given as goal
 
-abbrev pub invariant-loop-i : goal.invariant-loop-i
-invariant-loop-i l = (l.m ≤ 9) × Capped l.costs × (l.i ≤ l.m) × (l.plain ≡ total (take l.i l.costs)) × (l.squares ≡ total (map square (take l.i l.costs)))
-
-abbrev pub decreases-loop-i : goal.decreases-loop-i
-decreases-loop-i l = l.m - l.i
+abbrev pub invariant-loop-cost : goal.invariant-loop-cost
+invariant-loop-cost l =
+    record {
+      plain : l.plain ≡ total (take l.cost-index l.cost-items);
+      squares : l.squares ≡ total (map square (take l.cost-index l.cost-items));
+      plain_low : l.plain ≤ l.cost-index * max_cost;
+      squares_low : l.squares ≤ l.cost-index * square max_cost;
+    }

@@ -1,15 +1,8 @@
--- t is the search after the first i calls; and how many calls are left.
-use Rattle.std.proofs.Common.{◌≡◌, ℕ, ◌-◌, ◌≤◌, length, get_or}
+-- The calls that are left lead from s to the search after the whole list.
+use Rattle.std.proofs.Common.{◌≡◌, drop}
 use Rattle.rules.specs.History.{after}
-use Rattle.rules.specs.Simplex.{up_to}
-use Rattle.examples.specs.List.{call_of}
+use Rattle.examples.specs.List.{calls_of}
 use Rattle.examples.proofs.list.calls.Given as goal
 
-abbrev pub invariant-loop-i : goal.invariant-loop-i
-invariant-loop-i l = record {
-  in_kinds : l.i ≤ length l.kinds;
-  searched : l.t ≡ after l.initial.t (up_to (λ (k : ℕ). call_of (get_or l.kinds k 0) (get_or l.numbers k 0) (get_or l.costs k 0)) l.i);
-}
-
-abbrev pub decreases-loop-i : goal.decreases-loop-i
-decreases-loop-i l = length l.kinds - l.i
+abbrev pub invariant-loop-call : goal.invariant-loop-call
+invariant-loop-call l = after l.s (calls_of (drop l.call-index l.list)) ≡ after l.initial.s (calls_of l.list)

@@ -1,54 +1,50 @@
--- `tune_text::fields::read_numbers` meets its contract: a line is malformed by a field or by their count, or the next number is put after the others.
--- Assumes nothing.
-use Rattle.std.proofs.Common.{arith, refl, sym, ◌≡◌}
-use borrow.Author.Tests.{not-true, not-false}
-use Rattle.tune_text.specs.Fields.{form}
-use Rattle.tune_text.specs.Handed.{numbers_read}
-use Rattle.tune_text.proofs.Laws.Splitting.{Turn, bad, outcome_first, refuses_form, refuses_count, goes_on}
+-- `tune_text::fields::read_numbers` meets its contract: too few fields, one of another form, or too many. Assumes nothing.
+use Rattle.std.proofs.Common.{rules, tests, arith, ◌≡◌, ◌∙◌, ap, sym, [], take}
+use Rattle.std.proofs.lemmas.List.{length-replicate}
+use Rattle.tune_text.proofs.Laws.Splitting.{left, outcome, first_left, some_left, outcome_first, outcome_other, outcome_few, outcome_more, outcome_last}
 use Rattle.tune_text.proofs.fields.read_numbers.Goals as goal
-use Rattle.tune_text.proofs.fields.read_numbers.Goals.{then-not-number-via-then-not-number, then-not-number-via-else-not-number+then-last-end}
 
-pub loop-i-init : goal.loop-i-init
-loop-i-init c =
+pub loop-number-init : goal.loop-number-init
+loop-number-init g c = record {
+  sized = length-replicate _ _;
+  whole = rw (c.split-fields.ensures.done, c.split-fields.ensures.rest) (outcome_first c.args.form g.row.K c.args.line.now);
+}
+
+pub returns-in_err-next : goal.returns-in_err-next
+returns-in_err-next g c =
+    let at = c.loop-number in
+    let none : left at.fields ≡ [] = rw c.in_err-next.ensures.steps.0 in
+    let few = outcome_few c.args.form g.row.K at.number-items at.number-index at.invariant.sized (omega arith) in
+    let whole = at.invariant.whole ∙ ap (outcome c.args.form g.row.K (take at.number-index at.number-items)) none ∙ few in
+    rw whole c.from_residual.ensures
+
+pub returns-in_err-number : goal.returns-in_err-number
+returns-in_err-number g c =
+    let at = c.loop-number in
+    let x = c.in_ok-next.field-0 in
+    let front = take at.number-index at.number-items in
+    let some = first_left _ at.fields c.next.new.self x c.in_ok-next.ensures.steps (λ y b q k. search (rules, tests)) in
+    let other = outcome_other c.args.form g.row.K front x.now (left c.next.new.self) c.in_err-number.ensures in
+    let whole = at.invariant.whole ∙ ap (outcome c.args.form g.row.K front) some ∙ other in
+    rw whole c.from_residual-in_err-number.ensures
+
+pub loop-number-preserved : goal.loop-number-preserved
+loop-number-preserved g c =
+    let at = c.loop-number in
+    let x = c.in_ok-next.field-0 in
+    let some = first_left _ at.fields c.next.new.self x c.in_ok-next.ensures.steps (λ y b q k. search (rules, tests)) in
+    let more = outcome_more c.args.form g.row.K at.number-items at.number-index _ x.now (left c.next.new.self) (omega arith) c.in_ok-number.ensures in
     record {
-      within = λ h. omega arith;
-      gives = λ h. outcome_first (form c.args.base c.args.least c.args.most) c.args.k c.args.line.now;
-      ends = λ h. absurd (omega (arith, c.requires.k_nonzero.0));
-      four = refl;
-      zeros = refl;
+      sized = search rules;
+      whole = at.invariant.whole ∙ ap (outcome c.args.form g.row.K (take at.number-index at.number-items)) some ∙ more;
     }
 
-pub returns-then-not-number : goal.returns-then-not-number
-returns-then-not-number c =
-    let f = form c.args.base c.args.least c.args.most in
-    let xs = c.args.line.now in
-    let at = c.loop-i in
-    let n = c.read_number-number.result in
-    let t : Turn f c.args.k xs at.values at.from at.i c.find-end.result n = record {
-      going = at.invariant;
-      more = c.loop-i-test.true;
-      found = c.find-end.ensures.found;
-      inside = c.find-end.ensures.between.1;
-      got = c.read_number-number.ensures;
-    } in
-    let malformed : numbers_read f c.args.k xs ≡ bad =
-    elim c.then-not-number.branch [
-      | then-not-number-via-then-not-number w ↦ refuses_form f c.args.k xs at.values at.from at.i c.find-end.result n t (not-true n.well w.if-not-number.true)
-      | then-not-number-via-else-not-number+then-last-end w ↦ refuses_count f c.args.k xs at.values at.from at.i c.find-end.result n t w.if-last-end.true
-    ] in
-    sym malformed
+pub loop-number-smaller : goal.loop-number-smaller
+loop-number-smaller g c = omega arith
 
-pub loop-i-preserved : goal.loop-i-preserved
-loop-i-preserved c =
-    let f = form c.args.base c.args.least c.args.most in
-    let xs = c.args.line.now in
-    let at = c.loop-i in
-    let n = c.read_number-number.result in
-    let t : Turn f c.args.k xs at.values at.from at.i c.find-end.result n = record {
-      going = at.invariant;
-      more = c.loop-i-test.true;
-      found = c.find-end.ensures.found;
-      inside = c.find-end.ensures.between.1;
-      got = c.read_number-number.ensures;
-    } in
-    goes_on f c.args.k xs at.values at.from at.i c.find-end.result n t (not-false n.well c.if-not-number.false) c.if-last-end.false c.requires.k_nonzero.1
+pub returns : goal.returns
+returns g c =
+    let at = c.loop-number in
+    let last = some_left _ at.fields c.next-2.new.self c.next-2.result c.next-2.ensures.steps (λ y b q k. search (rules, tests)) in
+    let whole = outcome_last c.args.form g.row.K at.number-items at.number-index c.next-2.result c.is_none.result (left at.fields) at.invariant.sized (omega arith) last c.is_none.ensures in
+    c.then_some.ensures ∙ sym (at.invariant.whole ∙ whole)

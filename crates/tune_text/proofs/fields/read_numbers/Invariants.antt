@@ -1,12 +1,14 @@
--- `tune_text::fields::read_numbers`: the line's numbers are those that are read and those of the fields that are left, and zeros follow what is read. The measure
--- is how many fields are to be read.
-use Rattle.std.proofs.Common.{◌-◌}
-use Rattle.tune_text.specs.Fields.{form}
-use Rattle.tune_text.proofs.Laws.Splitting.{Going}
+-- `tune_text::fields::read_numbers`: the line's numbers are those that are read and those of the fields that are left. The measure is how many are to be read.
+use Rattle.std.proofs.Common.{◌≡◌, ◌-◌, length, take}
+use Rattle.tune_text.specs.Handed.{numbers_read}
+use Rattle.tune_text.proofs.Laws.Splitting.{left, outcome}
 use Rattle.tune_text.proofs.fields.read_numbers.Given as goal
 
-abbrev pub invariant-loop-i : goal.invariant-loop-i
-invariant-loop-i l = Going (form l.base l.least l.most) l.k l.line l.values l.from l.i
+abbrev pub invariant-loop-number : goal.invariant-loop-number
+invariant-loop-number g l = record {
+  sized : length l.number-items ≡ g.row.K;
+  whole : numbers_read l.form g.row.K l.line ≡ outcome l.form g.row.K (take l.number-index l.number-items) (left l.fields);
+}
 
-abbrev pub decreases-loop-i : goal.decreases-loop-i
-decreases-loop-i l = l.k - l.i
+abbrev pub decreases-loop-number : goal.decreases-loop-number
+decreases-loop-number g l = l.number-index-end - l.number-index

@@ -1,2 +1,0 @@
--- Theorems that no single function owns.
-pub mod Calls

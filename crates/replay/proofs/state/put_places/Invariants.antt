@@ -1,6 +1,0 @@
--- How many places are left.
-use Rattle.std.proofs.Common.{◌-◌}
-use Rattle.replay.proofs.state.put_places.Given as goal
-
-abbrev pub decreases-loop-i : goal.decreases-loop-i
-decreases-loop-i l = 9 - l.i

@@ -1,6 +1,0 @@
--- How many axes are left.
-use Rattle.std.proofs.Common.{◌-◌}
-use Rattle.replay.proofs.state.put_point.Given as goal
-
-abbrev pub decreases-loop-a : goal.decreases-loop-a
-decreases-loop-a l = 8 - l.a
