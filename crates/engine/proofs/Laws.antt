@@ -7,3 +7,4 @@ pub mod Ending
 pub mod Deciding
 pub mod Sounding
 pub mod Opening
+pub mod Steps

@@ -8,7 +8,8 @@ use super::point::trial;
 use super::stop::Piece;
 use rules::{Phase, Search, Side, Vertex};
 
-// What an iteration's reading decides by the table, or what another phase's reading is for.
+// What an iteration's reading decides by the table, or what another phase's reading is for. A value and no closure: the promise of
+// `decided` is that it equals the table's.
 #[derive(Clone, Copy)]
 pub(super) enum Decision {
     Build(usize),

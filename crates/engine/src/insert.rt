@@ -1,4 +1,5 @@
-// A newcomer among the places, after all of equal cost: the recursion of document 01, on one vertex fewer at each call.
+// A newcomer among the places, after all of equal cost: the recursion of document 01, on one vertex fewer at each call. That len ≤ 8, asked
+// for in each contract, leaves it a place; a Simplex does not carry how many vertices it has.
 ghost use Rattle.std.specs.Prelude.{◌++◌, ◌∷◌, ◌+◌, ◌≤◌, take, drop};
 ghost use Rattle.rules.specs.Simplex.{unpack, insert};
 ghost use Rattle.engine.specs.Places.{Clean, Holds};

@@ -22,6 +22,7 @@ ghost use Rattle.rules.specs.Opening.{opening};
 ghost use Rattle.rules.specs.Calls.{asking, telling, showing};
 
 // Opens a search. Where one of the refusals 1 to 7 is the verdict, the search is the closed one.
+#[tactic(auto, unfolding(rules::specs::Opening::opening))]
 pub fn open_search(given: &Opening) -> Opened
     ensures { result ≡ opening given.now.n given.now.axes given.now.rule given.now.coefficients given.now.budget }
 {
@@ -34,6 +35,7 @@ pub fn open_search(given: &Opening) -> Opened
 }
 
 // The trial to measure next, with its reading number.
+#[tactic(auto, using(crate::proofs::Laws::Checking::exit, crate::proofs::Laws::Sounding::asks), unfolding(rules::specs::Calls::asking, rules::specs::Trial::trial))]
 pub fn ask(search: &Search) -> Result<Asked, Refusal>
     ensures { result ≡ asking search.now }
 {
@@ -45,6 +47,7 @@ pub fn ask(search: &Search) -> Result<Asked, Refusal>
 }
 
 // Takes the reading of that number: the trial's cost. A refused one leaves the search as it is.
+#[tactic(auto, using(crate::proofs::Laws::Checking::exit, crate::proofs::Laws::Sounding::tell_takes), unfolding(rules::specs::Calls::telling))]
 pub fn tell(search: &mut Search, number: u64, cost: u64) -> Result<(), Refusal>
     ensures verdict { result ≡ (telling search.old number cost).verdict }
     ensures search { search.new ≡ (telling search.old number cost).search }
@@ -55,6 +58,7 @@ pub fn tell(search: &mut Search, number: u64, cost: u64) -> Result<(), Refusal>
 }
 
 // The earliest reading of least cost.
+#[tactic(auto, using(crate::proofs::Laws::Checking::exit), unfolding(rules::specs::Calls::showing))]
 pub fn best(search: &Search) -> Result<Vertex, Refusal>
     ensures { result ≡ showing search.now }
 {
@@ -65,7 +69,8 @@ pub fn best(search: &Search) -> Result<Vertex, Refusal>
     })
 }
 
-// The refusal's number in the table of document 01.
+// The refusal's number in the table of document 01. A call and no From: a u64 would not say of which table, and `rules`, where Refusal
+// stands, has no function.
 pub fn refusal_number(refusal: Refusal) -> u64
     ensures { result ≡ number_of refusal }
 {

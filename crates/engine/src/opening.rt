@@ -8,7 +8,7 @@ use rules::{
     Search, Setup, Vertex,
 };
 
-// Whether -1,048,576 ≤ v ≤ 1,048,576.
+// Whether -1,048,576 ≤ v ≤ 1,048,576. Written out, since a NaN must fail it.
 fn in_range(v: f64) -> bool
     ensures { result ≡ in_range v }
 {
@@ -52,7 +52,8 @@ fn axis_verdict(i: usize, x: Axis) -> Result<(), Refusal>
     Ok(())
 }
 
-// Checks 2, 3 and 4 on the first n axes, lowest axis first.
+// Checks 2, 3 and 4 on the first n axes, lowest axis first. By the index, which the refusal tells.
+#[tactic(auto, using(crate::proofs::Laws::Checking::exit, crate::proofs::Laws::Opening::axes_first), unfolding(rules::specs::Opening::axes_checks))]
 fn axes_verdict(n: usize, axes: &[Axis; 8]) -> Result<(), Refusal>
     requires { n ≤ 8 }
     ensures { result ≡ axes_checks n 0 axes.now (Ok tt) }
@@ -84,8 +85,7 @@ fn in_threshold(rule: Rule) -> bool
 {
     match rule {
         Rule::Spread(e) => 1 <= e && e <= MAX_SPREAD,
-        Rule::Moved(e) => 0.0 < e && e <= 1048576.0,
-        Rule::Size(e) => 0.0 < e && e <= 1048576.0,
+        Rule::Moved(e) | Rule::Size(e) => 0.0 < e && e <= 1048576.0,
     }
 }
 
@@ -97,6 +97,7 @@ fn rule_of(choice: Option<Rule>) -> Rule
 }
 
 // Checks 1 to 7, in table order.
+#[tactic(auto, using(crate::proofs::Laws::Checking::exit, crate::proofs::Laws::Opening::opens, std::proofs::lemmas::Bool::Decides::nat_tests))]
 pub(super) fn open_verdict(given: &Opening) -> Result<(), Refusal>
     ensures { result ≡ open_verdict given.now.n given.now.axes given.now.rule given.now.coefficients given.now.budget }
 {
@@ -117,7 +118,8 @@ pub(super) fn open_verdict(given: &Opening) -> Result<(), Refusal>
     Ok(())
 }
 
-// The first n records, zero records after them.
+// The first n records, zero records after them. `shown` does the same for floats: each is one call of the library. One function for both
+// was tried, and over an array of a type parameter it is not covered by the automatic part of a proof.
 fn keep(n: usize, axes: &[Axis; 8]) -> [Axis; 8]
     ensures { result ≡ keep n axes.now }
 {
@@ -150,6 +152,7 @@ fn unread(setup: Setup, phase: Phase, center: [f64; 8]) -> Search
 }
 
 // The search of an opening that is not refused.
+#[tactic(auto, unfolding(rules::specs::Opening::fresh))]
 pub(super) fn fresh(given: &Opening) -> Search
     ensures { result ≡ fresh given.now.n given.now.axes given.now.rule given.now.coefficients given.now.budget }
 {
@@ -164,7 +167,8 @@ pub(super) fn fresh(given: &Opening) -> Search
     unread(setup, Phase::Building(0), starts(axes))
 }
 
-// The search of a refused opening.
+// The search of a refused opening. Its phase and its rule are no defaults, so none is derived.
+#[tactic(auto, unfolding(rules::specs::Opening::closed))]
 pub(super) fn closed() -> Search
     ensures { result ≡ closed }
 {

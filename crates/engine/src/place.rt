@@ -1,4 +1,5 @@
-// One place of a simplex, read from and written to the flat runs of points and costs.
+// One place of a simplex, read from and written to the flat runs of points and costs. Each function asks that its place is one of the nine:
+// a type for a place would be made of an index and taken apart at once.
 ghost use Rattle.std.specs.Prelude.{◌≡◌, ◌<◌, ◌≤◌, []};
 ghost use Rattle.rules.specs.Simplex.{pack, unpack, place};
 ghost use Rattle.engine.specs.Places.{put_at, Holds};
@@ -44,7 +45,8 @@ pub(super) fn clear(s: &mut Simplex, len: usize)
     s.costs[len..].fill(0);
 }
 
-// A simplex of nine blank places.
+// A simplex of nine blank places. Written out and not derived: document 01 gives the run of 72 numbers in this form.
+#[tactic(auto, unfolding(rules::specs::Simplex::store, rules::specs::Simplex::flat))]
 pub(super) fn blank() -> Simplex
     ensures { result ≡ pack [] }
 {

@@ -58,7 +58,7 @@ fn beyond(x: &Axis, c: f64, w: f64, alpha: f64, k: f64) -> f64
     moved(x, c, k, r, c)
 }
 
-// Coordinate a of the trial of each phase. An ended search has none.
+// Coordinate a of the trial of each phase. An ended search has none. A match and no closure of the phase: the promise is the rules' `asked`.
 #[tactic(auto, unfolding(rules::specs::Trial::built, rules::specs::Trial::reflected, rules::specs::Trial::expanded, rules::specs::Trial::contracted, rules::specs::Trial::shrunk, rules::specs::Trial::probed))]
 fn coordinate(s: &Search, phase: Phase, a: usize) -> f64
     requires { (Askable s.now phase) × (a < 8) }
@@ -93,7 +93,7 @@ fn coordinate(s: &Search, phase: Phase, a: usize) -> f64
 }
 
 // The point that the search would ask in this phase, axis by axis.
-#[tactic(auto, unfolding(rules::specs::Simplex::up_to))]
+#[tactic(auto, using(crate::proofs::Laws::Filling::point_more), unfolding(rules::specs::Simplex::up_to))]
 pub(super) fn trial(s: &Search, phase: Phase) -> [f64; 8]
     requires { Askable s.now phase }
     ensures { result ≡ point s.now.setup.n (asked s.now phase) }
@@ -105,7 +105,7 @@ pub(super) fn trial(s: &Search, phase: Phase) -> [f64; 8]
     out
 }
 
-// The first n coordinates of a point, zero after them.
+// The first n coordinates of a point, zero after them; `keep` of the opening is its twin, and says why.
 pub(super) fn shown(n: usize, point: [f64; 8]) -> [f64; 8]
     ensures { result ≡ first_of n 0ᶠ point }
 {

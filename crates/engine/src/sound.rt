@@ -1,4 +1,5 @@
-// The verdicts of the later calls: refusal 12, then 8 to 11.
+// The verdicts of the later calls: refusal 12, then 8 to 11. Where n ≤ 8 is asked for, `sound` has just tested it: no type holds it of a
+// search that may be made up.
 ghost use Rattle.std.specs.Prelude.{◌≡◌, ◌&&◌, ◌≤◌};
 ghost use Rattle.rules.specs.Simplex.{unpack};
 ghost use Rattle.rules.specs.Calls.{sound_phase, gathered_in, standing_of, gathered_of, in_order, all_costs, sound_rule, sound_counts, sound, undamaged, ask_verdict, tell_verdict, best_verdict};
@@ -14,6 +15,7 @@ fn all_costs(costs: &[u64]) -> bool
 }
 
 // Whether the first m places are in cost order.
+#[tactic(auto, using(crate::proofs::Laws::Sounding::orders))]
 fn in_order(s: &Simplex, m: usize) -> bool
     requires { m ≤ 9 }
     ensures { result ≡ in_order (unpack m s.now) }
@@ -118,6 +120,7 @@ pub(super) fn ask_verdict(s: &Search) -> Result<(), Refusal>
 }
 
 // The refusals of tell: those of ask, then 10, 9.
+#[tactic(auto, using(crate::proofs::Laws::Checking::exit, crate::proofs::Laws::Sounding::ask_below, crate::proofs::Laws::Checking::tell_after_ask))]
 pub(super) fn tell_verdict(s: &Search, number: u64, cost: u64) -> Result<(), Refusal>
     ensures { result ≡ tell_verdict s.now number cost }
 {

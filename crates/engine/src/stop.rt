@@ -27,7 +27,8 @@ struct Sums {
     squares: u64,
 }
 
-// from + (x - y)² over the axes, in axis order. By place: over x.iter().zip(y) the invariant would have to follow both iterators too.
+// from + (x - y)² over the axes, in axis order. By place: tried over x.iter().zip(y), where the loop's goal stayed open.
+//
 #[tactic(auto, unfolding(rules::specs::Stop::apart))]
 pub(super) fn distance(x: &[f64], y: &[f64], from: f64) -> f64
     requires { length x.now ≡ length y.now }
@@ -47,13 +48,14 @@ fn norm(x: &[f64]) -> f64
     ensures { result ≡ norm x.now (length x.now) }
 {
     let mut sum = 0.0;
-    for x in x {
-        sum += *x * *x;
+    for u in x {
+        sum += *u * *u;
     }
     sum
 }
 
-// The sums of the costs at the first m places. One loop, since costs.iter().sum() would bring std's sum beside the rules' total.
+// The sums of the costs at the first m places. One loop: tried by costs.iter().sum(), where the goals stayed open, since std's
+// sum is not the rules' total.
 #[tactic(auto, using(crate::proofs::Laws::Stopping::sums), unfolding(rules::specs::Stop::total))]
 fn sums_of(s: &Simplex, m: usize) -> Sums
     requires { (m ≤ 9) × Capped s.now.costs }
@@ -81,6 +83,7 @@ fn spread_met(s: &Search, e: u64) -> bool
 }
 
 // Whether every place from 2 to n + 1 lies within the limit of place 1.
+#[tactic(auto, using(crate::proofs::Laws::Stopping::within_next, crate::proofs::Laws::Placing::rest_none), unfolding(rules::specs::Stop::all_within))]
 fn all_within(s: &Search, limit: f64) -> bool
     requires { Ready s.now }
     ensures { result ≡ all_within s.now.setup.n limit (place s.now.standing 0).point (drop 1 (stands s.now)) }
@@ -96,7 +99,7 @@ fn all_within(s: &Search, limit: f64) -> bool
     true
 }
 
-// D of the rule size.
+// D of the rule size, by document 01's test.
 fn scale(q: f64) -> f64
     ensures { result ≡ scale q }
 {

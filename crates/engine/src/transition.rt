@@ -1,4 +1,6 @@
-// The search after an accepted reading: what was decided is done, then the budget is tested.
+// The search after an accepted reading: what was decided is done, then the budget is tested. `Ready` stands in each contract
+// and in no type of ours: a search is the caller's own plain struct, made up or not, and a step may break the fact, since a count that
+// stands at its bound passes it by one.
 ghost use Rattle.std.specs.Prelude.{◌≡◌, map, ◌≤◌, ◌<◌, drop};
 ghost use Rattle.rules.specs.Binary64.{0ᶠ};
 ghost use Rattle.rules.specs.Numbers.{max_cost, max_budget};
@@ -61,6 +63,7 @@ fn shrinking(s: &mut Search)
 }
 
 // How far the vertices at places 2 to n + 1 move by a shrink.
+#[tactic(auto, unfolding(rules::specs::Simplex::up_to, rules::specs::Stop::movement))]
 fn shrink_movement(s: &Search) -> f64
     requires { Ready s.now }
     ensures { result ≡ movement s.now.setup.n (map point_of (drop 1 (stands s.now))) (shrunk_points s.now) 0ᶠ }
@@ -112,7 +115,8 @@ fn probed_on(s: &mut Search, p: usize, b: u64, v: Vertex)
     }
 }
 
-// Does what was decided, with the vertex v that is kept, b being the best cost before the reading.
+// Does what was decided, with the vertex v that is kept, b being the best cost before the reading: two values of which only a probe reads
+// both, so no struct.
 fn acted(s: &mut Search, decision: Decision, b: u64, v: Vertex)
     requires { (Ready s.old) × (Allowed s.old.setup.n decision) × (v.cost ≤ max_cost) }
     ensures { s.new ≡ acted_on decision b v s.old }
@@ -149,6 +153,7 @@ fn budgeted(s: &mut Search)
 }
 
 // The search after an accepted reading.
+#[tactic(auto, unfolding(rules::specs::Accept::accept, rules::specs::Trial::trial))]
 pub(super) fn accept(s: &mut Search, cost: u64)
     requires { (Ready s.old) × (s.old.readings < max_budget) × (Fits s.old.setup.n s.old.phase) × (cost ≤ max_cost) }
     ensures { s.new ≡ accept s.old cost }

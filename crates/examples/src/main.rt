@@ -13,6 +13,7 @@ mod play;
 mod refusals;
 mod show;
 
+// Prints all cases.
 fn main(rt: HostRuntime) -> io::Result<()> {
     paper::all(&rt)?;
     cases::all(&rt)?;

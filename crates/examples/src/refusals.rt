@@ -17,7 +17,7 @@ fn show_each(rt: &impl Print, openings: &[Opening]) -> io::Result<()> {
 fn openings(rt: &impl Print) -> io::Result<()> {
     println!(rt; "openings refused")?;
     let good = opening(2, 0.0, 8.0, None, 100);
-    let none = axis(0.0 / 0.0, 8.0);
+    let nan = axis(f64::NAN, 8.0);
     let low = opening(2, 0.0, -9.0, None, 100);
     show_each(
         rt,
@@ -25,9 +25,9 @@ fn openings(rt: &impl Print) -> io::Result<()> {
             good,
             Opening { n: 0, ..good },
             Opening { n: 9, ..good },
-            with_second(good, none),
-            with_second(low, none),
-            with_second(Opening { n: 1, ..good }, none),
+            with_second(good, nan),
+            with_second(low, nan),
+            with_second(Opening { n: 1, ..good }, nan),
         ],
     )
 }

@@ -3,16 +3,14 @@ use numerals::bits_of;
 use rules::{Asked, Cause, Phase, Refusal, Search, Side};
 use std::{fmt, io};
 
-// The first n coordinates of a point, each printed by its bits after a space.
+// Coordinates, each printed by its bits after a space. `replay` prints words so: `numerals` promises what its functions answer, and what is
+// printed has no promise.
 #[derive(Clone, Copy)]
-struct Coordinates {
-    n: usize,
-    point: [f64; 8],
-}
+struct Coordinates<'a>(&'a [f64]);
 
-impl fmt::Display for Coordinates {
+impl fmt::Display for Coordinates<'_> {
     fn fmt<W: fmt::Write>(&self, f: &mut fmt::Formatter<W>) -> fmt::Result {
-        for x in self.point.iter().take(self.n) {
+        for x in self.0 {
             write!(f, " {:016x}", bits_of(*x))?;
         }
         Ok(())
@@ -21,10 +19,7 @@ impl fmt::Display for Coordinates {
 
 // Writes a trial with its number and the cost that is told for it.
 pub(super) fn trial(rt: &impl Print, n: usize, asked: &Asked, cost: u64) -> io::Result<()> {
-    let point = Coordinates {
-        n,
-        point: asked.point,
-    };
+    let point = Coordinates(&asked.point[..n.min(8)]);
     println!(rt; "{}{point} {cost}", asked.number)
 }
 
@@ -47,10 +42,7 @@ fn phase_name(phase: Phase) -> &'static str {
 // expansions, contractions, shrinks, probes, open readings).
 pub(super) fn state(rt: &impl Print, s: &Search) -> io::Result<()> {
     let best = engine::best(s).unwrap_or_default();
-    let point = Coordinates {
-        n: s.setup.n,
-        point: best.point,
-    };
+    let point = Coordinates(&best.point[..s.setup.n.min(8)]);
     println!(rt; "{}, best{point} {}", phase_name(s.phase), best.cost)?;
     let c = s.counts;
     println!(rt;

@@ -1,7 +1,6 @@
 // The calls of a script, each with its answer.
 use super::script::Command;
-use super::series;
-use super::series::Total;
+use super::series::{self, Total};
 use rules::{Asked, Refusal, Search, Vertex};
 
 // What a command is answered.
@@ -15,7 +14,7 @@ pub(super) enum Answer {
     Series(Result<Total, Refusal>),
 }
 
-// The number of an answer's verdict: the refusal's, or 0.
+// The number of an answer's verdict: the refusal's, or 0, as docs/REPLAY.md has it in a transcript.
 pub(super) fn number_of<T>(answer: &Result<T, Refusal>) -> u64 {
     match answer {
         Ok(_) => 0,
@@ -23,7 +22,7 @@ pub(super) fn number_of<T>(answer: &Result<T, Refusal>) -> u64 {
     }
 }
 
-// The axis that comes with a refusal, or 0.
+// The axis that comes with a refusal, or 0, as docs/REPLAY.md has it.
 pub(super) fn axis_of(verdict: &Result<(), Refusal>) -> u64 {
     match verdict {
         Ok(_) => 0,
@@ -36,7 +35,7 @@ pub(super) fn closed() -> Search {
     engine::open_search(&series::opening(0)).search
 }
 
-// Does what a command says.
+// Does what a command says. A value and no closure: it is read from text.
 pub(super) fn make(search: &mut Search, command: Command) -> Answer {
     match command {
         Command::Open(given) => {

@@ -6,7 +6,7 @@ use rules::{Asked, Cause, Phase, Search, Side, Vertex};
 use std::fmt::{Display, Formatter};
 use std::{fmt, io};
 
-// Words of a line, each after a space.
+// Words of a line, each after a space; `examples` prints coordinates so, and says why.
 #[derive(Clone, Copy)]
 struct Words<'a>(&'a [u64]);
 
@@ -30,7 +30,7 @@ impl Display for Reading<'_> {
     }
 }
 
-// The phase's number, and its detail: the vertices or probes that an unfinished piece has so far, or the cost of r.
+// The phase's number in docs/REPLAY.md, and its detail: the vertices or probes that an unfinished piece has so far, or the cost of r.
 fn numbered(phase: Phase) -> (u64, u64) {
     match phase {
         Phase::Building(built) => (0, built as u64),

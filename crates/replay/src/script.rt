@@ -3,7 +3,7 @@ use arrayvec::ArrayVec;
 use numerals::{float_of, from_digits};
 use rules::{Axis, Coefficients, Opening, Rule};
 
-// What a line says.
+// What a line says. Letters and the kinds of a rule are matched once, here at the edge: a script is text.
 #[derive(Clone, Copy)]
 pub(super) enum Command {
     Open(Opening),
@@ -34,7 +34,8 @@ fn words(fields: &[u8]) -> Option<ArrayVec<u64, 40>> {
     Some(words)
 }
 
-// The axis record that four words say.
+// The axis record that four words say. `tune_text` has the same of four fields: neither crate may use the other, `rules` has no function,
+// and `numerals` knows no axis.
 fn axis_of([lo, hi, start, step]: [u64; 4]) -> Axis {
     Axis {
         lo: float_of(lo),

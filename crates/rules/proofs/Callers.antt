@@ -1,22 +1,23 @@
 -- What each caller relies on, of every search that an opening and calls have made. Assumes nothing.
 use Rattle.std.specs.Prelude.{Option, Result, Ok, Err}
 use mathlib.Core.Path.{◌≡◌, refl, sym, ap, ◌∙◌, subst}
-use mathlib.Core.Bool.{Bool, true, false, true≢false, cond, not, and-eq-true_iff}
+use mathlib.Core.Bool.{Bool, true, false, cond, and-eq-true_iff, not}
 use mathlib.Core.List.{List, [], ◌∷◌, ◌++◌}
-use mathlib.Core.Logic.{◌↔◌}
+use mathlib.Core.Logic.{◌↔◌, ⊎_elim}
 use Prim.Native.Nat.{ℕ, ◌+◌, ◌*◌, ◌≤◌, ◌<◌}
 use native.Mathlib.Omega.{arith}
 use lib.ListN.{length, get_or, length-append}
-use lib.Dec.{eqb, leb}
+use lib.Dec.{eqb}
 use lib.Ieee.{Float, nan}
 use borrow.Author.Tests.{eqb-true, ne_eqb, eq-eqb, lt-leb}
+use Rattle.std.proofs.lemmas.Bool.{cases_Bool}
 use Rattle.rules.specs.Binary64.{◌≤ᶠ◌}
 use Rattle.rules.specs.Numbers.{max_cost}
 use Rattle.rules.specs.Trial.{no_axis, trial}
 use Rattle.rules.specs.Accept.{run}
 use Rattle.rules.specs.Refusals.{Verdict, check, answered}
 use Rattle.rules.specs.Opening.{opening, fresh}
-use Rattle.rules.specs.Calls.{is_ended, undamaged, ask_verdict, tell_verdict, best_verdict, told_by, asking, telling, showing}
+use Rattle.rules.specs.Calls.{is_ended, undamaged, ask_verdict, tell_verdict, best_verdict, asking, telling, showing, told_by}
 use Rattle.rules.specs.History.{Call, tell, after1, after, joins, history1, history_from, history, reading}
 use Rattle.rules.specs.Claims.{Within, Claims}
 use Rattle.rules.specs.declared.Rule.{Rule}
@@ -31,7 +32,7 @@ use Rattle.rules.specs.declared.Refusal.TheVariants.{SearchEnded, CostTooHigh, W
 use Rattle.rules.proofs.Laws.Openings.{opened_verdict, opened_fresh, opened_axis}
 use Rattle.rules.proofs.Laws.Histories.{Joined}
 use Rattle.rules.proofs.Runs.Begun.{Begun, whole_run}
-use Rattle.rules.proofs.Runs.Calling.{told_verdict, run_undamaged, all_follow}
+use Rattle.rules.proofs.Runs.Calling.{run_undamaged, all_follow}
 use Rattle.rules.proofs.Claim.{opened_begun, claim}
 
 -- ---- the calls' verdicts on a search that is not damaged
@@ -40,25 +41,27 @@ use Rattle.rules.proofs.Claim.{opened_begun, claim}
 abbrev pub Not12 : {A : Type 0} → Result A Refusal → Type 0
 Not12 r = r ≡ Err Damaged → ⊥
 
--- a call whose checks do not give refusal 12 does not answer it
-answered_not_12 : {A : Type 0} (v : Verdict) (x : A) → Not12 v → Not12 (answered v x)
-answered_not_12 (Ok _) x g e = let none : ⊥ = cc in none
-answered_not_12 (Err r) x g e = let same : r ≡ Damaged = cc in g (ap (λ (q : Refusal). Err q) same)
-
 -- what holds where a check passes and where it refuses holds of it
 pub check_elim : (P : Verdict → Type 0) (b : Bool) {r : Refusal} {v : Verdict} → (b ≡ true → P v) → (b ≡ false → P (Err r)) → P (check b r v)
 check_elim P true f g = f refl
 check_elim P false f g = g refl
 
+-- where ask is refused, a tell is refused alike and the search stays: the checks of ask come first in a tell
+refused_alike : {A : Type 0} (u e : Bool) (v : Verdict) (x : A) (s : Search) (c : ℕ) (r : Refusal)
+    → answered (check u Damaged (check (not e) SearchEnded (Ok tt))) x ≡ Err r → told_by (check u Damaged (check (not e) SearchEnded v)) s c ≡ record { verdict = Err r; search = s }
+refused_alike true true v x s c r h = let same : SearchEnded ≡ r = cc in rw same
+refused_alike true false v x s c r h = let none : ⊥ = cc in absurd none
+refused_alike false e v x s c r h = let same : Damaged ≡ r = cc in rw same
+
+pub ask_refused : (s : Search) (r : Refusal) → asking s ≡ Err r → (k c : ℕ) → telling s k c ≡ record { verdict = Err r; search = s }
+unfolding asking telling ask_verdict tell_verdict
+ask_refused s r h k c = refused_alike (undamaged s) (is_ended s.phase) _ _ s c r h
+
 module _ (s : Search) (h : undamaged s ≡ true) where
   -- a number that is not the next is refused as 10, or as 8 where the search has ended
   tell_wrong : (k c : ℕ) → (k ≡ s.readings + 1 → ⊥) → telling s k c ≡ record { verdict = Err (cond (is_ended s.phase) SearchEnded WrongNumber); search = s }
   unfolding telling tell_verdict
-  tell_wrong k c d = rw (h, ne_eqb k (s.readings + 1) d) (go (is_ended s.phase))
-    where
-      go : (b : Bool) → told_by (check (not b) SearchEnded (Err WrongNumber)) s c ≡ record { verdict = Err (cond b SearchEnded WrongNumber); search = s }
-      go true = refl
-      go false = refl
+  tell_wrong k c d = rw (h, ne_eqb k (s.readings + 1) d) (⊎_elim (λ e. rw e) (λ e. rw e) (cases_Bool (is_ended s.phase)))
 
   -- the next number with a cost above the largest is refused as 9
   tell_high : (k c : ℕ) → is_ended s.phase ≡ false → k ≡ s.readings + 1 → max_cost < c → telling s k c ≡ record { verdict = Err CostTooHigh; search = s }
@@ -76,25 +79,17 @@ module _ (s : Search) (h : undamaged s ≡ true) where
   best_none e = rw (h, eq-eqb s.readings 0 e)
 
   -- no call on a search that is not damaged is refused as 12
-  first_passes : (v : Verdict) → Not12 v → Not12 (check (undamaged s) Damaged v)
-  first_passes v g = check_elim Not12 (undamaged s) (λ e. g) (λ e. absurd (true≢false (sym h ∙ e)))
-
   ask_not_12 : Not12 (asking s)
   unfolding asking ask_verdict
-  ask_not_12 = answered_not_12 (ask_verdict s) _ (first_passes _ (check_elim Not12 (not (is_ended s.phase)) (λ e f. let none : ⊥ = cc in none) (λ e f. let none : ⊥ = cc in none)))
+  ask_not_12 e = grind (arith, h)
 
   best_not_12 : Not12 (showing s)
   unfolding showing best_verdict
-  best_not_12 = answered_not_12 (best_verdict s) _ (first_passes _ (check_elim Not12 (not (eqb s.readings 0)) (λ e f. let none : ⊥ = cc in none) (λ e f. let none : ⊥ = cc in none)))
+  best_not_12 e = grind (arith, h)
 
   tell_not_12 : (k c : ℕ) → Not12 (telling s k c).verdict
   unfolding telling tell_verdict
-  tell_not_12 k c =
-      rw (told_verdict (tell_verdict s k c) s c)
-      (first_passes _
-      (check_elim Not12 (not (is_ended s.phase))
-      (λ e. check_elim Not12 (eqb k (s.readings + 1)) (λ d. check_elim Not12 (leb c max_cost) (λ b f. let none : ⊥ = cc in none) (λ b f. let none : ⊥ = cc in none)) (λ d f. let none : ⊥ = cc in none))
-      (λ e f. let none : ⊥ = cc in none)))
+  tell_not_12 k c e = grind (arith, h)
 
 -- a tell that joins has the next number
 joins_number : (o : Search) (h : List ℕ) (k c : ℕ) → joins o h k c ≡ true → eqb k (length h + 1) ≡ true

@@ -1,6 +1,6 @@
 -- Demand 3: the claim about every list of calls on a newly opened search. Assumes nothing.
 use Rattle.std.specs.Prelude.{Option, Ok}
-use mathlib.Core.Path.{◌≡◌, refl, ap}
+use mathlib.Core.Path.{◌≡◌, refl, ap, subst}
 use mathlib.Core.List.{List, [], ◌∷◌, ◌++◌}
 use Prim.Native.Nat.{ℕ, ◌<◌}
 use native.Mathlib.Omega.{arith}
@@ -14,21 +14,16 @@ use Rattle.rules.specs.Claims.{Within, BoundAfter, FullRound, Claims}
 use Rattle.rules.specs.declared.Rule.{Rule}
 use Rattle.rules.specs.declared.Axis.{Axis}
 use Rattle.rules.specs.declared.Coefficients.{Coefficients}
-use Rattle.rules.specs.declared.Counts.{Counts}
+use Rattle.rules.specs.declared.Setup.{Setup}
 use Rattle.rules.specs.declared.Search.{Search}
 use Rattle.rules.specs.declared.Asked.{Asked}
 use Rattle.rules.specs.declared.Phase.TheVariants.{Ended}
 use Rattle.rules.specs.declared.Cause.TheVariants.{Settled}
 use Rattle.rules.proofs.Laws.Openings.{opened_verdict, opened_fresh, opened_sane}
 use Rattle.rules.proofs.Laws.Histories.{Joined}
-use Rattle.rules.proofs.Steps.Invariant.{Equation}
-use Rattle.rules.proofs.Runs.Begun.{Begun, fresh_begun, whole_run, run_inv, run_readings, run_builds, run_reflections, run_expansions, run_contractions, run_shrinks, run_probes, run_unfinished, run_standing, run_places, run_vertices}
+use Rattle.rules.proofs.Runs.Begun.{Begun, fresh_begun, whole_run, run_inv, run_readings, run_counts, run_unfinished, run_standing, run_places, run_vertices}
 use Rattle.rules.proofs.Runs.Moments.{run_first, made_since, falls_since, run_settled_only, run_settled_when, run_spent, run_within, run_within_told}
 use Rattle.rules.proofs.Runs.Calling.{telling_joins, asking_answers, asked_trial, showing_best, all_follow}
-
--- the invariant's equation, once there is a reading
-equation_from : (m n k : ℕ) (c : Counts) → m ≡ n → Equation m k c → 0 < k → k ≡ readings_by n c
-equation_from m n k c e h l = rw (← e) (omega arith)
 
 -- every claim, of the rules over an accepted history
 module _ (o : Search) (begun : Begun o) where
@@ -51,7 +46,8 @@ module _ (o : Search) (begun : Begun o) where
 
   equation_of : (h : List ℕ) (t : Joined o h) → 0 < length h → (run o h).readings ≡ readings_by o.setup.n (run o h).counts
   equation_of h t l =
-      equation_from (run o h).setup.n o.setup.n (run o h).readings (run o h).counts (ap (λ s. s.n) (whole_run o begun h t).kept) (run_inv o begun h t).equation (omega (arith, run_readings o begun h t))
+      let same = ap (λ (s : Setup). s.n) (whole_run o begun h t).kept in
+      subst (λ (n : ℕ). (run o h).readings ≡ readings_by n (run o h).counts) same (omega (arith, (run_inv o begun h t).equation, run_readings o begun h t))
 
   claims : (h : List ℕ) → Joined o h → Claims o h (run o h)
   claims h t =
@@ -66,12 +62,12 @@ module _ (o : Search) (begun : Begun o) where
         best = showing_best o begun h t;
         first = first_of h t;
         readings = run_readings o begun h t;
-        builds = run_builds o begun h t;
-        reflections = run_reflections o begun h t;
-        expansions = run_expansions o begun h t;
-        contractions = run_contractions o begun h t;
-        shrinks = run_shrinks o begun h t;
-        probes = run_probes o begun h t;
+        builds = omega (arith, (run_counts o begun h t).builds);
+        reflections = omega (arith, (run_counts o begun h t).reflections);
+        expansions = omega (arith, (run_counts o begun h t).expansions);
+        contractions = omega (arith, (run_counts o begun h t).contractions);
+        shrinks = omega (arith, (run_counts o begun h t).shrinks);
+        probes = omega (arith, (run_counts o begun h t).probes);
         unfinished = run_unfinished o begun h t;
         equation = equation_of h t;
         bound_after_build = bound_of build h t;

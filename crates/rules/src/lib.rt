@@ -47,7 +47,7 @@ pub enum Rule {
 }
 
 // What an opening asks for: the axis count n, eight axis records of which those past n are not read, a stopping rule or
-// none, the coefficients and the budget.
+// none, the coefficients and the budget. Document 01 gives n and eight records.
 #[derive(Clone, Copy)]
 pub struct Opening {
     pub n: usize,
@@ -96,7 +96,8 @@ pub struct Vertex {
     pub cost: u64,
 }
 
-// Nine places in one flat run: coordinate a of place i, both from 0, stands at 8 * i + a.
+// Nine places in one flat run: coordinate a of place i, both from 0, stands at 8 * i + a. Document 01 names the run of points, so the costs
+// stand beside it.
 #[derive(Clone, Copy)]
 pub struct Simplex {
     pub points: [f64; 72],
@@ -128,7 +129,8 @@ pub struct Setup {
 }
 
 // A search: the standing simplex is that of the last finished build or iteration, the gathered one holds
-// what an unfinished build or shrink has so far, and the center is the point that a build goes around.
+// what an unfinished build or shrink has so far, and the center is the point that a build goes around. The best is zeros until there is
+// a reading, and no Option: document 01 has a closed search all zero.
 #[derive(Clone, Copy)]
 pub struct Search {
     pub setup: Setup,
@@ -158,7 +160,8 @@ pub enum Refusal {
     Damaged,
 }
 
-// The answer of an opening: whether it is accepted, and the search, which is closed where it is not.
+// The answer of an opening: whether it is accepted, and the search, which is closed where it is not. Document 01 has a search in both,
+// so the whole is no Result.
 #[derive(Clone, Copy)]
 pub struct Opened {
     pub verdict: Result<(), Refusal>,

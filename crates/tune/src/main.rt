@@ -10,7 +10,7 @@ use std::io;
 use std::io::Read;
 use tune_text::State;
 
-// Makes as many steps as a buffer has room for, and writes their lines.
+// Makes as many steps as a buffer has room for, and writes their lines. `fill` takes a buffer: the text of `tune` has no heap.
 fn write_some(rt: &impl Print, input: &[u8], state: &mut State) -> io::Result<()>
     requires { is_done state.old.progress.stage ≡ false }
     ensures { steps_left input.now state.new < steps_left input.now state.old }
@@ -20,7 +20,7 @@ fn write_some(rt: &impl Print, input: &[u8], state: &mut State) -> io::Result<()
     rt.write_all(&buffer[..count])
 }
 
-// Makes all steps for this input, or stops at the first write that fails.
+// Makes all steps for this input, or stops at the first write that fails. No index is counted: each turn leaves fewer steps.
 fn tune(rt: &impl Print, input: &[u8]) -> io::Result<()> {
     let mut state = State::first();
     while !state.is_done() {

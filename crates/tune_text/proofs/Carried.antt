@@ -26,7 +26,7 @@ use Rattle.rules.specs.declared.Refusal.{Refusal}
 use Rattle.rules.specs.declared.Refusal.TheVariants.{AxisCount, OutOfRange, BadLimits, BadStep, BadCoefficient, BadThreshold, BadBudget, CostTooHigh}
 use Rattle.rules.proofs.Examples.{floats}
 use Rattle.rules.proofs.Laws.Openings.{opened_by_verdict}
-use Rattle.rules.proofs.Laws.Tests.{cond_elim}
+use Rattle.std.proofs.lemmas.Bool.{cond_both}
 use Rattle.rules.proofs.Runs.Calling.{told_verdict}
 use Rattle.rules.proofs.Claim.{claim}
 use Rattle.rules.proofs.Callers.{after_snoc, check_elim, sound_always}
@@ -70,7 +70,7 @@ opening_turn_kept q = go (opening_of q).verdict refl
 axes_read_kept : (k : ℕ) (q : Request) (s : Search) → Kept (axes_read k q s).progress
 unfolding axes_read
 axes_read_kept k q s =
-    cond_elim (λ (t : Turned). Kept t.progress) (ltb k (axis_lines q.n)) (λ e. axes_kept k q s) (λ e. opening_turn_kept q)
+    cond_both (ltb k (axis_lines q.n)) _ _ (λ (t : Turned). Kept t.progress) (λ e. axes_kept k q s) (λ e. opening_turn_kept q)
 
 -- a cost line is one call more
 told_kept : (p : Progress) (cost : ℕ) → Carried p → Kept (cost_told p cost).progress
@@ -95,13 +95,13 @@ told_kept p cost c = go (asking p.search)
 line_kept : (stage : Stage) (p : Progress) (i : ℕ) (line : List ℕ) → p.stage ≡ stage → Kept p → Kept (line_read stage p i line).progress
 unfolding line_read
 line_kept Head p i line e h =
-    cond_elim (λ (t : Turned). Kept t.progress) (is_line whole_number 3 line)
+    cond_both (is_line whole_number 3 line) _ _ (λ (t : Turned). Kept t.progress)
     (λ w. axes_read_kept 0 (request_of (values whole_number line)) p.search) (λ w. done_kept p.request p.search)
 line_kept (Axes k) p i line e h =
-    cond_elim (λ (t : Turned). Kept t.progress) (is_line hexadecimal 4 line)
+    cond_both (is_line hexadecimal 4 line) _ _ (λ (t : Turned). Kept t.progress)
     (λ w. axes_read_kept (suc k) (with_axis k (axis_from (values hexadecimal line)) p.request) p.search) (λ w. done_kept p.request p.search)
 line_kept Costs p i line e h =
-    cond_elim (λ (t : Turned). Kept t.progress) (is_line whole_number 1 line)
+    cond_both (is_line whole_number 1 line) _ _ (λ (t : Turned). Kept t.progress)
     (λ w. told_kept p (get_or (values whole_number line) 0 0) (h e)) (λ w. done_kept p.request p.search)
 line_kept Done p i line e h = h
 

@@ -10,7 +10,7 @@ use lib.Seq.{drop-drop}
 use lib.Dec.{leb}
 use borrow.Author.Tests.{le-leb, leb-true, leb-false}
 use Rattle.tune_text.specs.Scan.{index_of}
-use Rattle.rules.proofs.Laws.Tests.{cond_elim}
+use Rattle.std.proofs.lemmas.Bool.{cond_both}
 use Rattle.tune_text.specs.Fields.{newline, cut}
 use Rattle.tune_text.specs.Lines.{bad_line}
 use Rattle.tune_text.specs.Reading.{Turned, nothing_read, line_read, last_line, is_over, is_done}
@@ -120,7 +120,7 @@ pub whole : (bytes : List ℕ) (k : ℕ) → length bytes < k → printed k byte
 unfolding first_state nothing_read transcript
 whole bytes zero h = absurd (omega arith)
 whole bytes (suc k) h =
-    cond_elim (λ (lines : List ℕ). printed (suc k) bytes first_state ≡ lines) (leb (length bytes) longest)
+    cond_both (leb (length bytes) longest) _ _ (λ (lines : List ℕ). printed (suc k) bytes first_state ≡ lines)
     (λ e. rest (suc k) bytes first_state (leb-true (length bytes) longest e) (omega arith) (omega arith))
     (λ e. long k bytes first_state refl (leb-false (length bytes) longest e))
 

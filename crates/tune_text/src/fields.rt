@@ -28,6 +28,7 @@ const HEXADECIMAL: Form = Form {
 };
 
 // The number that a field of this form is.
+#[tactic(auto, using(crate::proofs::Laws::Splitting::powers))]
 fn read_number(field: &[u8], form: Form) -> Option<u64>
     requires { (1 < form.base) × (form.base ≤ 16) × (form.base ^ form.most ≤ 2 ^ 64) }
     ensures { result ≡ number_read form field.now }
@@ -39,6 +40,7 @@ fn read_number(field: &[u8], form: Form) -> Option<u64>
 }
 
 // The numbers of a line that has K fields of this form, with one space between fields.
+#[tactic(auto, using(crate::proofs::Laws::Splitting::outcome_few))]
 fn read_numbers<const K: usize>(line: &[u8], form: Form) -> Option<[u64; K]>
     requires fits { (1 < form.base) × (form.base ≤ 16) × (form.base ^ form.most ≤ 2 ^ 64) }
     requires few { K ≤ 4 }

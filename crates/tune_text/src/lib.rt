@@ -17,10 +17,11 @@ ghost use Rattle.std.specs.Prelude.{◌≡◌};
 ghost use Rattle.tune_text.specs.Reading.{is_done};
 ghost use Rattle.tune_text.specs.Steps.{first_state, stepping, Fills};
 
-// A line of the output with its newline, or no line. The longest line has 178 bytes.
+// A line of the output with its newline, or no line: empty, since the lines put together are the output. The longest line has 178 bytes.
 pub type Line = ArrayVec<u8, 192>;
 
-// What the next line is: the line of n, budget and spread E; axis line k, from 0; a cost; or none.
+// What the next line is: the line of n, budget and spread E; axis line k, from 0; a cost; or none. A value and no closure, since it is kept
+// from one step to the next.
 #[derive(Clone, Copy)]
 pub enum Stage {
     Head,
@@ -38,7 +39,8 @@ pub struct Request {
     pub axes: [Axis; 8],
 }
 
-// What is read so far. The search is closed before the opening.
+// What is read so far. The search is closed before the opening, and stands beside the stage and not in it: what a line does speaks of all
+// three in every stage.
 #[derive(Clone, Copy)]
 pub struct Progress {
     pub stage: Stage,
@@ -94,7 +96,8 @@ impl State {
     }
 
     // Steps while something is left to do and the buffer has room for the longest line, puts their lines into it, and gives how many
-    // bytes of it they are.
+    // bytes of it they are, as a read of the library does. No index is counted: how many steps there are shows as they are made.
+    #[tactic(auto, using(crate::proofs::Laws::Filling::runs))]
     pub fn fill(&mut self, input: &[u8], buffer: &mut [u8]) -> usize
         ensures { Fills input.now self.old buffer.new self.new result }
     {

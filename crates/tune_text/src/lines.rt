@@ -10,7 +10,8 @@ use itoa::Buffer;
 use numerals::bits_of;
 use rules::{Cause, Refusal, Vertex};
 
-// Adds the bytes of a word to a line.
+// Adds the bytes of a word to a line. Each of these functions asks for the room that its own bytes take, so no type says it for all;
+// and n and a vertex are two parameters, as the definitions take them.
 fn put(line: &mut Line, word: &[u8])
     requires { Room (length word.now) line.old.items }
     ensures { line.new.items ≡ line.old.items ++ word.now }
@@ -27,8 +28,8 @@ fn put_decimal(line: &mut Line, n: u64)
     put(line, Buffer::new().format(n).as_bytes());
 }
 
-// Adds a coordinate by its bits, after a space. `io::hex` gives their digits: what `write!` promises leaves open whether it succeeds.
-#[tactic(auto, using(crate::proofs::Laws::Coordinates::sixteen))]
+// Adds a coordinate by its bits, after a space. `io::hex` gives their digits, in a buffer of sixteen: tried by `write!`, whose promise
+// leaves open whether it succeeds.
 fn put_coordinate(line: &mut Line, x: f64)
     requires { Room 17 line.old.items }
     ensures { line.new.items ≡ line.old.items ++ spaced_bits x }
@@ -40,7 +41,7 @@ fn put_coordinate(line: &mut Line, x: f64)
 }
 
 // Adds the first n coordinates of a point, at most eight.
-#[tactic(auto, using(crate::proofs::Laws::Coordinates::coordinates_length), unfolding(crate::specs::Lines::coordinates))]
+#[tactic(auto, using(crate::proofs::Laws::Coordinates::lengths), unfolding(crate::specs::Lines::coordinates))]
 fn put_point(line: &mut Line, n: usize, point: &[f64; 8])
     requires { Room 136 line.old.items }
     ensures { line.new.items ≡ line.old.items ++ coordinates (min n 8) point.now }
@@ -60,6 +61,7 @@ fn put_last(line: &mut Line, n: u64)
 }
 
 // Adds the first n coordinates of a point, its cost and the line's end.
+#[tactic(auto, using(crate::proofs::Laws::Coordinates::lengths))]
 fn put_point_and_cost(line: &mut Line, n: usize, vertex: &Vertex)
     requires { Room 158 line.old.items }
     ensures { line.new.items ≡ line.old.items ++ point_and_cost n vertex.now.point vertex.now.cost }

@@ -10,6 +10,7 @@ use crate::{Line, Progress, Request, Stage};
 use rules::{Opened, Opening, Refusal, Rule, USUAL};
 
 // Before the first line. The closed search is that of an opening with no axis, which is refused.
+#[tactic(auto, using(crate::proofs::Laws::Reading::nothings), unfolding(crate::specs::Reading::nothing_read))]
 pub(super) fn nothing_read() -> Progress
     ensures { result ≡ nothing_read }
 {
@@ -25,7 +26,7 @@ pub(super) fn nothing_read() -> Progress
 fn axis_lines(n: usize) -> usize
     ensures { result ≡ axis_lines n }
 {
-    if 1 <= n && n <= 8 { n } else { 0 }
+    if (1..=8).contains(&n) { n } else { 0 }
 }
 
 impl Request {

@@ -9,7 +9,7 @@ use crate::{Line, Progress, Request, Stage};
 use numerals::float_of;
 use rules::{Asked, Axis, Refusal, Vertex};
 
-// An axis record by its bits.
+// An axis record by its bits; `replay` has a twin, and says why.
 fn axis_from(values: [u64; 4]) -> Axis
     ensures { result ≡ axis_from values }
 {
@@ -39,7 +39,7 @@ impl Progress {
     }
 
     // Axis line k, from 0; none where it is malformed.
-    #[tactic(auto, unfolding(crate::specs::Reading::line_read, crate::specs::Handed::numbers_read))]
+    #[tactic(auto, using(crate::proofs::Laws::Reading::past_eight), unfolding(crate::specs::Reading::line_read, crate::specs::Handed::numbers_read))]
     fn axis_line(&mut self, k: usize, line: &[u8]) -> Option<Line>
         ensures { (i : ℕ) → turn_or_bad i self.new result ≡ line_read (Axes k) self.old i line.now }
     {

@@ -31,7 +31,7 @@ impl State {
     }
 
     // The step that reads a line, or meets the end of the input.
-    #[tactic(auto, unfolding(crate::specs::Steps::line_step, crate::specs::Scan::index_of))]
+    #[tactic(auto, using(crate::proofs::Laws::Stepping::line_steps), unfolding(crate::specs::Steps::line_step, crate::specs::Scan::index_of))]
     pub(super) fn line_step(&mut self, input: &[u8]) -> Line
         ensures { step_of self.new result ≡ line_step self.old (drop self.old.position input.now) }
     {

@@ -1,5 +1,6 @@
--- Laws on verdicts one after the other. Assumes nothing.
-use Rattle.std.proofs.Common.{◌≡◌, refl, Bool, true, false, ℕ, ◌+◌, Ok, Err, eqb, leb}
+-- Laws on verdicts one after the other, and on the exit of a `?`. Assumes nothing.
+use Rattle.std.proofs.Common.{◌≡◌, refl, ap, Bool, true, false, ℕ, ◌+◌, Result, Ok, Err, eqb, leb}
+use Rattle.std.specs.Prelude.{IsErrAnd}
 use Rattle.rules.specs.Numbers.{max_cost}
 use Rattle.rules.specs.Refusals.{Verdict, check}
 use Rattle.rules.specs.Calls.{ask_verdict, tell_verdict}
@@ -22,3 +23,8 @@ pub tell_after_ask : (s : Search) (number cost : ℕ)
     → tell_verdict s number cost ≡ and_then (ask_verdict s) (check (eqb number (s.readings + 1)) WrongNumber (check (leb cost max_cost) CostTooHigh (Ok tt)))
 unfolding ask_verdict tell_verdict
 tell_after_ask s number cost = simp check_then
+
+-- the exit of a `?` returns the refusal that the call before it returned
+pub exit : {T : Type 0} (r : Result T Refusal) (x : Refusal) → IsErrAnd r (λ y. y ≡ x) → r ≡ Err x
+exit (Ok t) x h = absurd h
+exit (Err y) x h = ap (λ z. Err z) h

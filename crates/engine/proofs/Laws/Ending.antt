@@ -1,6 +1,6 @@
 -- Laws on a piece that goes on or ends: the open readings, and what the code makes of a newcomer, the rules say. Assumes nothing.
 use mathlib.Core.Path.{◌≡◌, refl}
-use mathlib.Core.Logic.{◌≢◌, ◌⊎◌, ⊎_elim}
+use mathlib.Core.Logic.{◌≢◌, ◌⊎◌, ⊎_elim, inl, inr}
 use mathlib.Core.List.{List}
 use Prim.Native.Nat.{ℕ, zero, suc, ◌+◌, ◌≤◌}
 use native.Mathlib.Omega.{arith}
@@ -29,11 +29,15 @@ open_first zero (suc i) e h = absurd (omega arith)
 open_first (suc b) i e h = absurd (omega arith)
 
 -- every reading of a build but the very first is open
-pub open_later : (b i : ℕ) → (b ≢ 0) ⊎ ((b ≡ 0) × (i ≢ 0)) → first_open b i ≡ 1
-open_later zero zero h = absurd (⊎_elim (λ k. k refl) (λ k. k.1 refl) h)
+pub open_later : (b i : ℕ) → (b ≢ 0) ⊎ (i ≢ 0) → first_open b i ≡ 1
+open_later zero zero h = absurd (⊎_elim (λ k. k refl) (λ k. k refl) h)
 open_later zero (suc i) h = refl
 open_later (suc b) zero h = refl
 open_later (suc b) (suc i) h = refl
+
+-- the same, by the test that the code makes of i where b is 0
+pub open_after : (b i : ℕ) → (b ≢ 0) ⊎ ((b ≡ 0) × (i ≢ 0)) → first_open b i ≡ 1
+open_after b i h = open_later b i (⊎_elim (λ k. inl k) (λ k. inr k.1) h)
 
 -- ---- the end of a piece
 
@@ -57,4 +61,4 @@ module _ (g w : Simplex) (m : ℕ) (v : Vertex) (e : Holds (m + 1) w (insert v (
       rw (again, moved, ← met_by_lem s.setup.rule s.setup.n p old new vs, e.packed)
 
 -- the laws that the end of a piece takes
-pub ruleset ends = (ready_places, open_first, open_later, apart_take, capped_with, finished_with)
+pub ruleset ends = (ready_places, open_first, open_after, apart_take, capped_with, finished_with)

@@ -16,9 +16,10 @@ use Rattle.rules.specs.declared.Simplex.{Simplex}
 use Rattle.rules.specs.declared.Vertex.{Vertex}
 use Rattle.rules.specs.Numbers.{max_cost}
 use Rattle.rules.specs.Simplex.{up_to, blank, cost_of, flat, store, pack, place, unpack, insert}
+use Rattle.std.proofs.lemmas.Bool.{cases_lt}
 use Rattle.rules.proofs.Laws.Lists.{length_up_to, get_or_up_to, mem_get_or}
 use Rattle.rules.proofs.Laws.Places.{Whole, flat_append, flat_unpack, costs_unpack, unpack_pack, cost_pack}
-use Rattle.rules.proofs.Laws.Order.{insert_after, insert_before, mem_insert, le_or_lt}
+use Rattle.rules.proofs.Laws.Order.{insert_after, insert_before, mem_insert}
 use Rattle.engine.specs.Places.{put_at, Clean, Holds, Capped}
 
 -- ---- blank places
@@ -202,9 +203,9 @@ capped_inserted s n v h c i =
     let vs = insert v (unpack n s) in
     rw (cost_pack vs i)
     (⊎_elim
-    (λ l. rw (get_or-eq_default vs blank {n = i} l) (omega arith))
     (λ l. ⊎_elim
     (λ e. rw e h)
     (each_unpack (λ (w : Vertex). w.cost ≤ max_cost) n s (λ (j : ℕ) k. c j) _)
     (mem_insert v (unpack n s) (mem_get_or vs i blank l)))
-    (le_or_lt (length vs) i))
+    (λ l. rw (get_or-eq_default vs blank {n = i} l) (omega arith))
+    (cases_lt i (length vs)))

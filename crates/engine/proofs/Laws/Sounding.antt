@@ -1,6 +1,6 @@
 -- Laws of the test for a sound search: how the code comes to its outcome, and what an accepted call may take for granted. Assumes nothing.
 use mathlib.Core.Path.{◌≡◌, sym, ap, ◌∙◌}
-use mathlib.Core.Bool.{Bool, true, false, not, ◌||◌, false≢true, and-eq-true_iff}
+use mathlib.Core.Bool.{true, false, not, and-eq-true_iff}
 use mathlib.Core.List.{List, [], ◌∷◌}
 use Prim.Native.Nat.{ℕ, zero, suc, suc-le-suc, ◌+◌, ◌*◌, ◌≤◌, ◌<◌}
 use native.Mathlib.Omega.{arith}
@@ -10,7 +10,7 @@ use borrow.Author.Tests.{leb-true, ltb-true}
 use Rattle.std.specs.Prelude.{Some, Ok}
 use Rattle.std.specs.List.{IsAllAdjacentAnswer}
 use Rattle.std.specs.Ordering.{nat_cmp, is_le, is_some_and}
-use Rattle.std.proofs.lemmas.Bool.{false_from_ne_true}
+use Rattle.std.proofs.lemmas.Bool.{false_from_ne_true, not-true}
 use Rattle.std.proofs.lemmas.List.{get_or-take, length-take-le}
 use Rattle.std.proofs.lemmas.List.Sorted.{non_decreasing_from_is_sorted}
 use Rattle.rules.specs.Numbers.{max_cost, max_budget}
@@ -27,7 +27,7 @@ use Rattle.rules.proofs.Laws.Lists.{get_or_up_to}
 use Rattle.rules.proofs.Laws.Openings.{check_iff}
 use Rattle.rules.proofs.Laws.Order.{in_order_lem, from_in_order, ordered_at}
 use Rattle.engine.specs.Places.{Capped}
-use Rattle.engine.specs.Ready.{Fits, Ready}
+use Rattle.engine.specs.Ready.{Fits, Askable, Ready}
 use Rattle.engine.proofs.Laws.Placing.{length_unpack}
 
 -- ---- costs in range
@@ -54,24 +54,28 @@ module _ (s : Simplex) (m : ℕ) where
   unfolding unpack
   cost_at k l = ap cost_of (get_or_up_to (place s) k m blank l) ∙ sym (get_or-take m s.costs k 0 l)
 
-  -- the library's test of the first m costs is that of the vertices of the first m places
-  pub in_order_as : m ≤ length s.costs → (r : Bool) → IsAllAdjacentAnswer (λ x y b. is_some_and is_le (Some (nat_cmp x y)) ≡ b) (take m s.costs) r → r ≡ in_order (unpack m s)
-  in_order_as h true a =
+  -- where the library's test of the first m costs passes, the vertices of the first m places are in order
+  pub in_order_if : m ≤ length s.costs → IsAllAdjacentAnswer (λ x y b. is_some_and is_le (Some (nat_cmp x y)) ≡ b) (take m s.costs) true → in_order (unpack m s) ≡ true
+  in_order_if h a =
       let rises = non_decreasing_from_is_sorted (take m s.costs) true a in
-      sym
-      (in_order_lem (unpack m s)
+      in_order_lem (unpack m s)
       (stepwise (unpack m s)
       (λ k l.
       let u : suc k < m = omega (arith, length_unpack m s) in
-      rw (cost_at k (omega arith), cost_at (suc k) u) (rises k (suc k) 0 (omega arith) (simp length-take-le (omega arith))))))
-  in_order_as h false a =
+      rw (cost_at k (omega arith), cost_at (suc k) u) (rises k (suc k) 0 (omega arith) (simp length-take-le (omega arith)))))
+
+  -- else they are not
+  pub in_order_not : m ≤ length s.costs → IsAllAdjacentAnswer (λ x y b. is_some_and is_le (Some (nat_cmp x y)) ≡ b) (take m s.costs) false → in_order (unpack m s) ≡ false
+  in_order_not h a =
       let f = non_decreasing_from_is_sorted (take m s.costs) false a in
       let u : f.0 + 1 < m = simp length-take-le at f.1 in
-      sym
-      (false_from_ne_true (in_order (unpack m s))
+      false_from_ne_true (in_order (unpack m s))
       (λ e.
       let o = ordered_at (unpack m s) f.0 (f.0 + 1) (from_in_order (unpack m s) e) (omega arith) (omega (arith, length_unpack m s)) in
-      omega (arith, o, cost_at f.0 (omega arith), cost_at (f.0 + 1) u, f.2 0)))
+      omega (arith, o, cost_at f.0 (omega arith), cost_at (f.0 + 1) u, f.2 0))
+
+-- the two answers of the library's test
+pub ruleset orders = (in_order_if, in_order_not)
 
 -- ---- what the test for a sound search tells
 
@@ -110,27 +114,34 @@ module _ (s : Search) (h : sound s ≡ true) where
   unfolding sound
   below = let k = simp and-eq-true_iff at h in omega (arith, leb-true, ltb-true)
 
--- of two tests one of which holds, and not the first, the second does
-or_other : (a b : Bool) → (a || b) ≡ true → not a ≡ true → b ≡ true
-or_other true b h n = absurd (false≢true n)
-or_other false b h n = h
-
 -- a search that is refused neither as damaged nor as ended is sound
 unrefused : (s : Search) (v : Verdict) → check (undamaged s) Damaged (check (not (is_ended s.phase)) SearchEnded v) ≡ Ok tt → sound s ≡ true
-unrefused s v h = let k = simp check_iff at h in or_other (is_ended s.phase) (sound s) k.0 k.1.0
+unrefused s v h = let k = simp check_iff at h in rw (not-true (is_ended s.phase) k.1.0) at k.0
 
--- the search of an accepted ask is sound
-pub ask_sound : (s : Search) → ask_verdict s ≡ Ok tt → sound s ≡ true
-unfolding ask_verdict
-ask_sound s = unrefused s (Ok tt)
+-- ---- what an accepted call takes
 
-module _ (s : Search) (number cost : ℕ) (h : tell_verdict s number cost ≡ Ok tt) where
-  -- the search of an accepted tell is sound
-  pub tell_sound : sound s ≡ true
-  unfolding tell_verdict
-  tell_sound = unrefused s _ h
+module _ (s : Search) (a : Ok tt ≡ ask_verdict s) where
+  -- the search of an accepted ask is sound
+  ask_sound : sound s ≡ true
+  unfolding ask_verdict
+  ask_sound = unrefused s (Ok tt) (sym a)
 
-  -- the cost of an accepted tell is in range
-  pub tell_low : cost ≤ max_cost
-  unfolding tell_verdict
-  tell_low = let k = simp check_iff at h in omega (arith, leb-true)
+  -- its trial can be asked for
+  pub ask_askable : Askable s s.phase
+  ask_askable = record { low = (ready s ask_sound).low; high = (ready s ask_sound).high; fits = fits s ask_sound }
+
+  -- it has fewer readings than the largest budget
+  pub ask_below : s.readings < max_budget
+  ask_below = below s ask_sound
+
+-- what an accepted ask takes
+pub ruleset asks = (ask_askable, ask_below)
+
+-- what an accepted tell takes; the verdict stands before it, since tactics find the call by it
+pub tell_takes : (s : Search) (number cost : ℕ) → Ok tt ≡ tell_verdict s number cost
+    → (tell_verdict s number cost ≡ Ok tt) × (Ready s) × (s.readings < max_budget) × (Fits s.setup.n s.phase) × (cost ≤ max_cost)
+unfolding tell_verdict
+tell_takes s number cost a =
+    let h : sound s ≡ true = unrefused s _ (sym a) in
+    let k = simp check_iff at (sym a) in
+    (sym a, ready s h, below s h, fits s h, omega (arith, leb-true))

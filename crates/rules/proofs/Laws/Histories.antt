@@ -17,7 +17,7 @@ use Rattle.rules.specs.Trial.{trial}
 use Rattle.rules.specs.Accept.{Piece, accept, run}
 use Rattle.rules.specs.Calls.{is_ended}
 use Rattle.rules.specs.History.{reading}
-use Rattle.rules.specs.Tally.{finishes, pieces, count_of, made, probes_in, is_open, is_probe, open_in}
+use Rattle.rules.specs.Tally.{finishes, pieces, count_of, made, is_open, is_probe, open_in, probes_in}
 
 -- the trial of a search with its cost
 abbrev pub reading_of : Search → ℕ → Vertex
@@ -59,15 +59,15 @@ unfolding pieces run count_of
 made_append x s [] q = omega arith
 made_append x s (c ∷ p) q = rw (made_cons x s c (p ++ q), made_cons x s c p, made_append x (accept s c) p q) (omega arith)
 
-pub probes_in_append : (s : Search) (p q : List ℕ) → probes_in s (p ++ q) ≡ probes_in s p + probes_in (run s p) q
-unfolding probes_in run
-probes_in_append s [] q = omega arith
-probes_in_append s (c ∷ p) q = rw (probes_in_append (accept s c) p q) (omega arith)
-
 pub open_in_append : (k : ℕ) (s : Search) (p q : List ℕ) → open_in k s (p ++ q) ≡ open_in (open_in k s p) (run s p) q
 unfolding open_in run
 open_in_append k s [] q = refl
 open_in_append k s (c ∷ p) q = open_in_append (cond (is_open (finishes s.phase s c) (is_probe s.phase) s.readings) (k + 1) 0) (accept s c) p q
+
+pub probes_in_append : (s : Search) (p q : List ℕ) → probes_in s (p ++ q) ≡ probes_in s p + probes_in (run s p) q
+unfolding probes_in run
+probes_in_append s [] q = omega arith
+probes_in_append s (c ∷ p) q = rw (probes_in_append (accept s c) p q) (omega arith)
 
 pub readings_of_append : (s : Search) (p q : List ℕ) → readings_of s (p ++ q) ≡ readings_of s p ++ readings_of (run s p) q
 unfolding readings_of run

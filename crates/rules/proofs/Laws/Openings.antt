@@ -4,26 +4,26 @@ use mathlib.Core.Path.{◌≡◌, refl, sym, ◌∙◌}
 use mathlib.Core.Bool.{Bool, true, false, true≢false, false≢true, and-eq-true_iff}
 use mathlib.Core.List.{List, [], ◌∷◌}
 use mathlib.Core.Logic.{◌↔◌, ⊎_elim}
-use Prim.Native.Nat.{ℕ, zero, suc, suc-le-suc, ◌+◌, ◌-◌, ◌≤◌, ◌<◌}
+use Prim.Native.Nat.{ℕ, zero, suc, suc-le-suc, ◌+◌, ◌≤◌, ◌<◌}
 use native.Mathlib.Nat.{eq-or-lt_of_le}
 use native.Mathlib.Omega.{arith}
-use lib.ListN.{length, get_or, take, replicate, length-take, get_or-append}
-use lib.Seq.{get_or-take}
+use lib.ListN.{length, get_or}
 use lib.Ieee.{Float, lt}
 use borrow.Author.Tests.{leb-true}
+use Rattle.std.proofs.lemmas.List.{places}
 use Rattle.rules.specs.Binary64.{◌≤ᶠ◌, ◌<ᶠ◌}
 use Rattle.rules.specs.Numbers.{max_budget}
 use Rattle.rules.specs.Trial.{no_axis, axis, clamped, reflected, expanded, contracted, shrunk, built, probed, asked, trial}
 use Rattle.rules.specs.Refusals.{Verdict, check, answered}
-use Rattle.rules.specs.Opening.{in_threshold, axis_checks, axes_checks, rule_of, zero_axis, keep, fresh, opened_by, open_verdict, opening}
+use Rattle.rules.specs.Opening.{in_threshold, axis_checks, axes_checks, rule_of, keep, fresh, opened_by, open_verdict, opening}
 use Rattle.rules.specs.Calls.{sound_rule, is_ended}
 use Rattle.rules.specs.Claims.{Within}
 use Rattle.rules.specs.declared.Axis.{Axis}
 use Rattle.rules.specs.declared.Coefficients.{Coefficients}
 use Rattle.rules.specs.declared.Rule.{Rule}
-use Rattle.rules.specs.declared.Rule.TheVariants.{Spread, Moved, Size}
+use Rattle.rules.specs.declared.Rule.TheVariants.{Spread}
 use Rattle.rules.specs.declared.Phase.{Phase}
-use Rattle.rules.specs.declared.Phase.TheVariants.{Building, Reflecting, Expanding, Contracting, Shrinking, Probing, Ended}
+use Rattle.rules.specs.declared.Phase.TheVariants.{Contracting, Ended}
 use Rattle.rules.specs.declared.Side.TheVariants.{Outside, Inside}
 use Rattle.rules.specs.declared.Setup.{Setup}
 use Rattle.rules.specs.declared.Search.{Search}
@@ -36,12 +36,12 @@ use Rattle.rules.proofs.Laws.Clamp.{lt_le, clamp_low, clamp_high}
 -- a check accepts where its test holds and those after it accept
 pub check_iff : (b : Bool) (r : Refusal) (v : Verdict) → (check b r v ≡ Ok tt) ↔ ((b ≡ true) × (v ≡ Ok tt))
 check_iff true r v = (λ h. (refl, h), λ h. h.1)
-check_iff false r v = (λ h. let z : ◌≡◌ {A = ℕ} 0 1 = cc in absurd (omega arith), λ h. absurd (false≢true h.0))
+check_iff false r v = (λ h. absurd cc, λ h. absurd (false≢true h.0))
 
 -- a call that answers y has checks that pass, and y is what they let through
 pub answered_ok : {A : Type 0} (v : Verdict) (x y : A) → answered v x ≡ Ok y → (v ≡ Ok tt) × (y ≡ x)
 answered_ok (Ok _) x y e = (refl, cc)
-answered_ok (Err r) x y e = let none : ⊥ = cc in absurd none
+answered_ok (Err r) x y e = cc
 
 -- an axis that passes has lo < hi, and the checks after it accept
 axis_passes : (i : ℕ) (x : Axis) (v : Verdict) → axis_checks i x v ≡ Ok tt → ((x.lo <ᶠ x.hi) ≡ true) × (v ≡ Ok tt)
@@ -60,8 +60,7 @@ axes_pass (suc k) i xs v h =
 -- a threshold that the opening takes is sound
 threshold_sound : (r : Rule) → in_threshold r ≡ true → sound_rule r ≡ true
 threshold_sound (Spread e) h = (simp and-eq-true_iff at h).1
-threshold_sound (Moved e) h = refl
-threshold_sound (Size e) h = refl
+threshold_sound r h = refl
 
 -- an answer carries the verdict that it is made by
 pub opened_by_verdict : (v : Verdict) (s : Search) → (opened_by v s).verdict ≡ v
@@ -79,7 +78,7 @@ in_list (x ∷ xs) (suc a) h = suc-le-suc (in_list xs a h)
 
 -- the first n axes are kept as given
 kept_axis : (n : ℕ) (xs : List Axis) (a : ℕ) → a < n → a < length xs → get_or (keep n xs) a no_axis ≡ get_or xs a no_axis
-kept_axis n xs a l m = get_or-append (take n xs) (replicate (8 - n) zero_axis) no_axis a (simp length-take (omega arith)) ∙ get_or-take n xs a no_axis l
+kept_axis n xs a l m = grind (arith, places)
 
 -- ---- a search that is opened
 
@@ -116,10 +115,6 @@ module _ (n : ℕ) (axes : List Axis) (rule : Option Rule) (c : Coefficients) (b
     unfolding fresh
     opened_axis a l = kept_axis n axes a l (in_list axes a (below a l))
 
-    -- where the checks of an opening accept, each axis has lo ≤ hi
-    pub opened_limits : (a : ℕ) → a < n → ((get_or axes a no_axis).lo ≤ᶠ (get_or axes a no_axis).hi) ≡ true
-    opened_limits a l = lt_le (get_or axes a no_axis).lo (get_or axes a no_axis).hi (below a l)
-
     -- where the checks of an opening accept, its setup is sane
     pub opened_sane : Sane (fresh n axes rule c budget).setup
     unfolding fresh open_verdict
@@ -132,7 +127,7 @@ module _ (n : ℕ) (axes : List Axis) (rule : Option Rule) (c : Coefficients) (b
           enough = omega (arith, leb-true);
           not_much = omega (arith, leb-true);
           rule = threshold_sound (rule_of rule) rest.1.0;
-          limits = λ a l. rw (opened_axis a l) (opened_limits a l);
+          limits = λ a l. rw (opened_axis a l) (lt_le _ _ (below a l));
         }
 
 -- ---- the trial
@@ -147,14 +142,10 @@ clamped_within t h a l v =
 coordinate_within : (s : Search) → Sane s.setup → (p : Phase) → is_ended p ≡ false → (a : ℕ) → a < s.setup.n
     → (((axis s.setup a).lo ≤ᶠ asked s p a) ≡ true) × ((asked s p a ≤ᶠ (axis s.setup a).hi) ≡ true)
 unfolding built reflected expanded contracted shrunk probed
-coordinate_within s h (Building i) e a l = clamped_within s.setup h a l _
-coordinate_within s h Reflecting e a l = clamped_within s.setup h a l _
-coordinate_within s h (Expanding f) e a l = clamped_within s.setup h a l _
+coordinate_within s h (Ended cause) e a l = absurd (true≢false e)
 coordinate_within s h (Contracting Outside f) e a l = clamped_within s.setup h a l _
 coordinate_within s h (Contracting Inside f) e a l = clamped_within s.setup h a l _
-coordinate_within s h (Shrinking j) e a l = clamped_within s.setup h a l _
-coordinate_within s h (Probing p) e a l = clamped_within s.setup h a l _
-coordinate_within s h (Ended cause) e a l = absurd (true≢false e)
+coordinate_within s h p e a l = clamped_within s.setup h a l _
 
 -- an unfinished search asks within its limits
 pub trial_within : (s : Search) → Sane s.setup → is_ended s.phase ≡ false → Within s.setup (trial s)

@@ -1,96 +1,69 @@
 -- Laws on vertices in cost order, and on the newcomer among them. Assumes nothing.
 use mathlib.Core.Path.{◌≡◌, refl, ap}
-use mathlib.Core.Bool.{true, cond, and-eq-true_iff}
+use mathlib.Core.Bool.{true, cond}
 use mathlib.Core.List.Memᴰ
 use mathlib.Core.List.{List, [], ◌∷◌, ◌++◌, map, Memᴰ}
 use mathlib.Core.Logic.{◌⊎◌, inl, inr, ⊎_elim, ⊎_map, ◌↔◌}
 use Prim.Native.Nat.{ℕ, zero, suc, ◌+◌, ◌≤◌, ◌<◌}
 use native.Mathlib.Nat.{not-suc-le-zero, le_of_suc-le-suc}
-use native.Mathlib.Decide.{dec_le}
 use native.Mathlib.Omega.{arith}
 use lib.ListN.{length, get_or, take, drop}
 use lib.Dec.{leb}
-use borrow.Author.Tests.{le-leb, lt-leb, leb-true}
+use Rattle.std.proofs.lemmas.Bool.Decides.{nat_tests}
+use Rattle.std.proofs.lemmas.Bool.{cases_lt}
 use Rattle.rules.specs.declared.Vertex.{Vertex}
-use Rattle.rules.specs.Simplex.{blank, passes, insert, at_most, Ordered}
+use Rattle.rules.specs.Simplex.{blank, insert, at_most, Ordered}
 use Rattle.rules.specs.Stop.{total}
 use Rattle.rules.specs.Calls.{in_order}
-use Rattle.rules.proofs.Laws.Tests.{tests, cond_elim}
 use Rattle.rules.proofs.Laws.Lists.{mem_get_or}
-
--- of two numbers the first is at most the second, or above it
-pub le_or_lt : (a b : ℕ) → (a ≤ b) ⊎ (b < a)
-le_or_lt a b = pick (dec_le a b)
-  where
-    pick : Dec (a ≤ b) → (a ≤ b) ⊎ (b < a)
-    pick (yes h) = inl h
-    pick (no k) = inr (omega arith)
 
 -- ---- the newcomer, one vertex at a time
 
 -- a newcomer goes past a vertex of equal or lower cost
 pub insert_after : (v w : Vertex) (ws : List Vertex) → w.cost ≤ v.cost → insert v (w ∷ ws) ≡ w ∷ insert v ws
 unfolding insert
-insert_after v w ws h = cond_elim (λ (l : List Vertex). l ≡ w ∷ insert v ws) (passes v w) (λ e. refl) (λ e. absurd (omega (arith, tests)))
+insert_after v w ws h = grind (arith, nat_tests)
 
 -- a newcomer stops before a vertex of higher cost
 pub insert_before : (v w : Vertex) (ws : List Vertex) → v.cost < w.cost → insert v (w ∷ ws) ≡ v ∷ w ∷ ws
 unfolding insert
-insert_before v w ws h = cond_elim (λ (l : List Vertex). l ≡ v ∷ w ∷ ws) (passes v w) (λ e. absurd (omega (arith, tests))) (λ e. refl)
+insert_before v w ws h = grind (arith, nat_tests)
 
 -- a newcomer makes the vertices one more
 pub length_insert : (v : Vertex) (ws : List Vertex) → length (insert v ws) ≡ suc (length ws)
 unfolding insert
 length_insert v [] = refl
-length_insert v (w ∷ ws) =
-    ⊎_elim
-    (λ h. rw (insert_after v w ws h) (ap suc (length_insert v ws)))
-    (λ h. rw (insert_before v w ws h))
-    (le_or_lt w.cost v.cost)
+length_insert v (w ∷ ws) = grind (arith, nat_tests, length_insert v ws)
 
 -- a number at most the first vertex's cost and the newcomer's is at most the first cost with the newcomer among them
 at_most_insert : (c : ℕ) (v : Vertex) (vs : List Vertex) → c ≤ v.cost → at_most c vs → at_most c (insert v vs)
 unfolding insert
 at_most_insert c v [] h k = h
-at_most_insert c v (x ∷ xs) h k =
-    ⊎_elim
-    (λ e. rw (insert_after v x xs e) k)
-    (λ e. rw (insert_before v x xs e) h)
-    (le_or_lt x.cost v.cost)
+at_most_insert c v (x ∷ xs) h k = grind (arith, nat_tests)
 
 -- vertices in order stay in order with a newcomer among them
 pub ordered_insert : (v : Vertex) (vs : List Vertex) → Ordered vs → Ordered (insert v vs)
 unfolding insert Ordered
 ordered_insert v [] h = (tt, tt)
-ordered_insert v (x ∷ xs) h =
-    ⊎_elim
-    (λ e. rw (insert_after v x xs e) (at_most_insert x.cost v xs e h.0, ordered_insert v xs h.1))
-    (λ e. rw (insert_before v x xs e) (omega arith, h))
-    (le_or_lt x.cost v.cost)
+ordered_insert v (x ∷ xs) h = grind (arith, nat_tests, at_most_insert, ordered_insert v xs)
 
 -- a newcomer that is lower than the first vertex is first
 pub first_lower : (v b : Vertex) (vs : List Vertex) → take 1 vs ≡ b ∷ [] → v.cost < b.cost → take 1 (insert v vs) ≡ v ∷ []
+unfolding insert
 first_lower v b [] e h = cc
-first_lower v b (x ∷ xs) e h =
-    let same : x ≡ b = cc in
-    rw (insert_before v x xs (rw same h))
+first_lower v b (x ∷ xs) e h = grind (arith, nat_tests)
 
 -- a newcomer that is not lower than the first vertex leaves that vertex first
 pub first_stays : (v b : Vertex) (vs : List Vertex) → take 1 vs ≡ b ∷ [] → b.cost ≤ v.cost → take 1 (insert v vs) ≡ b ∷ []
+unfolding insert
 first_stays v b [] e h = cc
-first_stays v b (x ∷ xs) e h =
-    let same : x ≡ b = cc in
-    rw (insert_after v x xs (rw same h), same)
+first_stays v b (x ∷ xs) e h = grind (arith, nat_tests)
 
 -- every measure of vertices with a newcomer among them is the newcomer's and that of the vertices before
 pub total_insert : (f : Vertex → ℕ) (v : Vertex) (vs : List Vertex) → total (map f (insert v vs)) ≡ f v + total (map f vs)
 unfolding insert total
 total_insert f v [] = refl
-total_insert f v (x ∷ xs) =
-    ⊎_elim
-    (λ h. rw (insert_after v x xs h) (omega (arith, total_insert f v xs)))
-    (λ h. rw (insert_before v x xs h))
-    (le_or_lt x.cost v.cost)
+total_insert f v (x ∷ xs) = grind (arith, nat_tests, total_insert f v xs)
 
 -- with a newcomer among vertices, each is the newcomer or one of the vertices before
 pub mem_insert : (v : Vertex) (vs : List Vertex) {w : Vertex} → Memᴰ w (insert v vs) → (w ≡ v) ⊎ Memᴰ w vs
@@ -98,9 +71,9 @@ unfolding insert
 mem_insert v [] m = inl (Memᴰ.eq_of_singleton m)
 mem_insert v (x ∷ xs) {w} m =
     ⊎_elim
-    (λ h. ⊎_elim (λ e. inr (Memᴰ.head e)) (λ t. ⊎_map (λ e. e) (λ k. Memᴰ.tail k) (mem_insert v xs t)) (Memᴰ.cases_cons (rw (insert_after v x xs h) at m)))
     (λ h. Memᴰ.cases_cons (rw (insert_before v x xs h) at m))
-    (le_or_lt x.cost v.cost)
+    (λ h. ⊎_elim (λ e. inr (Memᴰ.head e)) (λ t. ⊎_map (λ e. e) (λ k. Memᴰ.tail k) (mem_insert v xs t)) (Memᴰ.cases_cons (rw (insert_after v x xs h) at m)))
+    (cases_lt v.cost x.cost)
 
 -- ---- the newcomer's place
 
@@ -112,22 +85,18 @@ rank v (x ∷ xs) = cond (leb x.cost v.cost) (suc (rank v xs)) 0
 -- past a vertex of equal or lower cost one vertex more stands before the newcomer
 rank_past : (v x : Vertex) (xs : List Vertex) → x.cost ≤ v.cost → rank v (x ∷ xs) ≡ suc (rank v xs)
 unfolding rank
-rank_past v x xs h = rw (le-leb x.cost v.cost h)
+rank_past v x xs h = grind (arith, nat_tests)
 
 -- where the first vertex has a higher cost, no vertex stands before the newcomer
 rank_here : (v x : Vertex) (xs : List Vertex) → v.cost < x.cost → rank v (x ∷ xs) ≡ 0
 unfolding rank
-rank_here v x xs h = rw (lt-leb x.cost v.cost h)
+rank_here v x xs h = grind (arith, nat_tests)
 
 -- the newcomer stands at its `rank`, and the other vertices stay as they stood
 pub insert_rank : (v : Vertex) (vs : List Vertex) → insert v vs ≡ take (rank v vs) vs ++ v ∷ drop (rank v vs) vs
 unfolding insert rank
 insert_rank v [] = refl
-insert_rank v (x ∷ xs) =
-    ⊎_elim
-    (λ h. rw (insert_after v x xs h, rank_past v x xs h) (ap (λ (l : List Vertex). x ∷ l) (insert_rank v xs)))
-    (λ h. rw (insert_before v x xs h, rank_here v x xs h))
-    (le_or_lt x.cost v.cost)
+insert_rank v (x ∷ xs) = grind (arith, nat_tests, insert_rank v xs)
 
 -- before the newcomer's place no cost is higher than the newcomer's
 pub rank_before : (v : Vertex) (vs : List Vertex) (w : Vertex) → Memᴰ w (take (rank v vs) vs) → w.cost ≤ v.cost
@@ -135,14 +104,14 @@ unfolding rank
 rank_before v [] w m = absurd (Memᴰ.not-nil m)
 rank_before v (x ∷ xs) w m =
     ⊎_elim
-    (λ h. ⊎_elim (λ e. rw e h) (λ t. rank_before v xs w t) (Memᴰ.cases_cons (rw (rank_past v x xs h) at m)))
     (λ h. absurd (Memᴰ.not-nil (rw (rank_here v x xs h) at m)))
-    (le_or_lt x.cost v.cost)
+    (λ h. ⊎_elim (λ e. rw e h) (λ t. rank_before v xs w t) (Memᴰ.cases_cons (rw (rank_past v x xs h) at m)))
+    (cases_lt v.cost x.cost)
 
 -- of ordered vertices none costs less than the first
 lowest : (x : Vertex) (xs : List Vertex) → Ordered (x ∷ xs) → (w : Vertex) → Memᴰ w (x ∷ xs) → x.cost ≤ w.cost
 unfolding Ordered
-lowest x [] h w m = omega (arith, ap (λ (u : Vertex). u.cost) (Memᴰ.eq_of_singleton m))
+lowest x [] h w m = grind (arith, Memᴰ.eq_of_singleton m)
 lowest x (y ∷ ys) h w m =
     ⊎_elim
     (λ e. omega (arith, ap (λ (u : Vertex). u.cost) e))
@@ -155,24 +124,22 @@ unfolding rank Ordered
 rank_after v [] o w m = absurd (Memᴰ.not-nil m)
 rank_after v (x ∷ xs) o w m =
     ⊎_elim
-    (λ h. rank_after v xs o.1 w (rw (rank_past v x xs h) at m))
     (λ h. omega (arith, lowest x xs o w (rw (rank_here v x xs h) at m)))
-    (le_or_lt x.cost v.cost)
+    (λ h. rank_after v xs o.1 w (rw (rank_past v x xs h) at m))
+    (cases_lt v.cost x.cost)
 
 -- the newcomer is first exactly if it is lower than the first vertex
 pub rank_first : (v x : Vertex) (xs : List Vertex) → (rank v (x ∷ xs) ≡ 0) ↔ (v.cost < x.cost)
-rank_first v x xs = (λ e. ⊎_elim (λ h. omega (arith, rank_past v x xs h)) (λ h. h) (le_or_lt x.cost v.cost), rank_here v x xs)
+rank_first v x xs = (λ e. grind (arith, rank_past v x xs), rank_here v x xs)
 
 -- ---- parts of ordered vertices
 
 -- the first k of ordered vertices are ordered
 pub ordered_take : (k : ℕ) (vs : List Vertex) → Ordered vs → Ordered (take k vs)
 unfolding Ordered
-ordered_take zero vs h = tt
-ordered_take (suc k) [] h = tt
-ordered_take (suc zero) (x ∷ xs) h = (tt, tt)
-ordered_take (suc (suc k)) (x ∷ []) h = (tt, tt)
 ordered_take (suc (suc k)) (x ∷ y ∷ ys) h = (h.0, ordered_take (suc k) (y ∷ ys) h.1)
+ordered_take (suc k) (x ∷ xs) h = (tt, tt)
+ordered_take k vs h = tt
 
 -- of ordered vertices a later one has no lower cost
 pub ordered_at : (vs : List Vertex) (i j : ℕ) → Ordered vs → i ≤ j → j < length vs → (get_or vs i blank).cost ≤ (get_or vs j blank).cost
@@ -187,22 +154,19 @@ pub in_order_lem : (vs : List Vertex) → Ordered vs → in_order vs ≡ true
 unfolding Ordered in_order
 in_order_lem [] h = refl
 in_order_lem (x ∷ []) h = refl
-in_order_lem (x ∷ (y ∷ ys)) h = rw (le-leb x.cost y.cost h.0) (in_order_lem (y ∷ ys) h.1)
+in_order_lem (x ∷ (y ∷ ys)) h = grind (arith, nat_tests, in_order_lem (y ∷ ys))
 
 -- the test for the order holds only where the order does
 pub from_in_order : (vs : List Vertex) → in_order vs ≡ true → Ordered vs
 unfolding Ordered in_order
 from_in_order [] h = tt
 from_in_order (x ∷ []) h = (tt, tt)
-from_in_order (x ∷ (y ∷ ys)) h =
-    let both = (and-eq-true_iff (leb x.cost y.cost) (in_order (y ∷ ys))).0 h in
-    (leb-true x.cost y.cost both.0, from_in_order (y ∷ ys) both.1)
+from_in_order (x ∷ (y ∷ ys)) h = grind (arith, nat_tests, from_in_order (y ∷ ys))
 
 -- a measure of n + 1 vertices is that of the first n and the last's
 pub total_take : (f : Vertex → ℕ) (n : ℕ) (vs : List Vertex) → length vs ≡ n + 1 → total (map f vs) ≡ total (map f (take n vs)) + f (get_or vs n blank)
 unfolding total
-total_take f zero [] e = omega arith
+total_take f n [] e = omega arith
 total_take f zero (x ∷ []) e = omega arith
 total_take f zero (x ∷ y ∷ ys) e = omega arith
-total_take f (suc n) [] e = omega arith
-total_take f (suc n) (x ∷ xs) e = omega (arith, total_take f n xs (omega arith))
+total_take f (suc n) (x ∷ xs) e = omega (arith, total_take f n xs)

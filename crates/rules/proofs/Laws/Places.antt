@@ -6,9 +6,10 @@ use mathlib.Core.List.{List, [], ◌∷◌, ◌++◌, map, map-append, append_as
 use mathlib.Core.Logic.{⊎_elim}
 use Prim.Native.Nat.{ℕ, zero, suc, ◌+◌, ◌-◌, ◌*◌, ◌≤◌, ◌<◌}
 use native.Mathlib.Omega.{arith}
-use lib.ListN.{length, get_or, take, drop, replicate, length-append, get_or-map}
+use lib.ListN.{length, get_or, take, drop, replicate, get_or-map}
 use lib.Seq.{drop-nil, take_all, take-suc, take-add, take_at, take-length, take-append-le, drop-append-add, drop-cons}
-use borrow.Author.Tests.{le-leb}
+use Rattle.std.proofs.lemmas.Bool.Decides.{nat_tests}
+use Rattle.std.proofs.lemmas.List.{places}
 use Rattle.rules.specs.declared.Simplex.{Simplex}
 use Rattle.rules.specs.declared.Vertex.{Vertex}
 use Rattle.rules.specs.Numbers.{max_cost}
@@ -37,11 +38,7 @@ whole_padded vs k = at_padded (λ (v : Vertex). length v.point ≡ 8) vs k refl
 
 -- past the vertices the places read blank, as does a list past its end
 get_or_padded : (vs : List Vertex) (k i : ℕ) → get_or (vs ++ replicate k blank) i blank ≡ get_or vs i blank
-get_or_padded [] zero i = refl
-get_or_padded [] (suc k) zero = refl
-get_or_padded [] (suc k) (suc i) = get_or_padded [] k i
-get_or_padded (v ∷ vs) k zero = refl
-get_or_padded (v ∷ vs) k (suc i) = get_or_padded vs k i
+get_or_padded vs k i = grind (arith, places)
 
 -- ---- the flat run
 
@@ -57,7 +54,7 @@ drop_flat (v ∷ vs) (suc i) h =
 -- place i of stored vertices is vertex i
 place_store : (vs : List Vertex) (i : ℕ) → Whole vs → i < length vs → place (store vs) i ≡ get_or vs i blank
 unfolding store flat
-place_store vs i h l = rw (drop_flat vs i h, drop-cons vs i blank l, take_at (get_or vs i blank).point (flat (drop (suc i) vs)) 8 (h _ (mem_get_or vs i blank l)), get_or-map cost_of vs i blank)
+place_store vs i h l = rw (drop_flat vs i h, drop-cons vs i blank l, take_at _ (flat (drop (suc i) vs)) 8 (h _ (mem_get_or vs i blank l)), get_or-map cost_of vs i blank)
 
 -- the first m places of stored vertices are the first m vertices
 unpack_store : (m : ℕ) (vs : List Vertex) → Whole vs → m ≤ length vs → unpack m (store vs) ≡ take m vs
@@ -67,15 +64,11 @@ unpack_store (suc m) vs h l = rw (place_store vs m h l, unpack_store m vs h (ome
 
 -- ---- unpack after pack
 
--- the places have room for the vertices
-padded_long : (vs : List Vertex) (k : ℕ) → length vs ≤ length (vs ++ replicate k blank)
-padded_long vs k = simp length-append (omega arith)
-
 -- the first m places of packed vertices hold the first m vertices
 pub unpack_take : (m : ℕ) (vs : List Vertex) → Whole vs → m ≤ length vs → unpack m (pack vs) ≡ take m vs
 unpack_take m vs h l =
     let k = 9 - length vs in
-    unpack_store m (vs ++ replicate k blank) (whole_padded vs k h) (omega (arith, padded_long vs k)) ∙ take-append-le m vs _ l
+    unpack_store m (vs ++ replicate k blank) (whole_padded vs k h) (grind (arith, places)) ∙ take-append-le m vs _ l
 
 -- packed vertices are found again
 pub unpack_pack : (vs : List Vertex) → Whole vs → unpack (length vs) (pack vs) ≡ vs
@@ -85,7 +78,7 @@ unpack_pack vs h = unpack_take (length vs) vs h (omega arith) ∙ take-length vs
 pub place_pack : (vs : List Vertex) (i : ℕ) → Whole vs → i < length vs → place (pack vs) i ≡ get_or vs i blank
 place_pack vs i h l =
     let k = 9 - length vs in
-    place_store (vs ++ replicate k blank) i (whole_padded vs k h) (omega (arith, padded_long vs k)) ∙ get_or_padded vs k i
+    place_store (vs ++ replicate k blank) i (whole_padded vs k h) (grind (arith, places)) ∙ get_or_padded vs k i
 
 -- the cost at place i of packed vertices is that of vertex i, and a blank one's past the last vertex
 pub cost_pack : (vs : List Vertex) (i : ℕ) → get_or (pack vs).costs i 0 ≡ (get_or vs i blank).cost
@@ -130,7 +123,7 @@ pack_unpack s p c =
 all_costs_map : (vs : List Vertex) → ((v : Vertex) → Memᴰ v vs → v.cost ≤ max_cost) → all_costs (map cost_of vs) ≡ true
 unfolding all_costs
 all_costs_map [] h = refl
-all_costs_map (v ∷ vs) h = rw (le-leb v.cost max_cost (h v (Memᴰ.head refl))) (all_costs_map vs (λ w m. h w (Memᴰ.tail m)))
+all_costs_map (v ∷ vs) h = grind (arith, nat_tests, h v (Memᴰ.head refl), all_costs_map vs (λ w m. h w (Memᴰ.tail m)))
 
 -- vertices of costs in range have places of costs in range
 pub costs_pack : (vs : List Vertex) → ((v : Vertex) → Memᴰ v vs → v.cost ≤ max_cost) → all_costs (pack vs).costs ≡ true

@@ -1,20 +1,23 @@
 -- What is true of the rules over every accepted history of a newly opened search. Assumes nothing.
 use Rattle.std.specs.Prelude.{Option}
-use mathlib.Core.Path.{◌≡◌, refl, sym, ap, ◌∙◌}
+use mathlib.Core.Path.{◌≡◌, refl, sym, ap, ◌∙◌, subst}
 use mathlib.Core.Bool.{cond}
 use mathlib.Core.List.{List, [], Memᴰ}
-use Prim.Native.Nat.{ℕ, zero, suc, ◌+◌, ◌<◌}
+use Prim.Native.Nat.{ℕ, ◌+◌, ◌<◌}
 use native.Mathlib.Omega.{arith}
 use lib.ListN.{length}
 use lib.Dec.{eqb}
+use Rattle.std.proofs.lemmas.Bool.Decides.{nat_tests}
+use Rattle.std.proofs.lemmas.Bool.{cond_both}
+use Rattle.rules.specs.declared.Counts.{Counts}
+use Rattle.rules.proofs.Steps.Stepping.{Counted}
+use Rattle.rules.specs.Tally.{pieces, made, probes_in, open_in}
 use Rattle.rules.specs.Binary64.{0ᶠ}
-use borrow.Author.Tests.{ne_eqb}
 use Rattle.rules.specs.Simplex.{first_of}
-use Rattle.rules.specs.Accept.{build, reflection, expansion, contraction, shrink, run}
+use Rattle.rules.specs.Accept.{build, run}
 use Rattle.rules.specs.Opening.{no_counts, fresh}
 use Rattle.rules.specs.Calls.{standing_of}
 use Rattle.rules.specs.History.{reading, EarliestLeast}
-use Rattle.rules.specs.Tally.{made, probes_in, open_in}
 use Rattle.rules.specs.declared.Rule.{Rule}
 use Rattle.rules.specs.declared.Axis.{Axis}
 use Rattle.rules.specs.declared.Coefficients.{Coefficients}
@@ -53,23 +56,9 @@ module _ (o : Search) (begun : Begun o) where
     pub run_readings : (run o h).readings ≡ length h
     run_readings = run_inv.noted.told ∙ length_readings_of o h
 
-    pub run_builds : (run o h).counts.builds ≡ made build o h
-    run_builds = omega (arith, whole_run.counts.builds, ap (λ c. c.builds) begun.counts)
-
-    pub run_reflections : (run o h).counts.reflections ≡ made reflection o h
-    run_reflections = omega (arith, whole_run.counts.reflections, ap (λ c. c.reflections) begun.counts)
-
-    pub run_expansions : (run o h).counts.expansions ≡ made expansion o h
-    run_expansions = omega (arith, whole_run.counts.expansions, ap (λ c. c.expansions) begun.counts)
-
-    pub run_contractions : (run o h).counts.contractions ≡ made contraction o h
-    run_contractions = omega (arith, whole_run.counts.contractions, ap (λ c. c.contractions) begun.counts)
-
-    pub run_shrinks : (run o h).counts.shrinks ≡ made shrink o h
-    run_shrinks = omega (arith, whole_run.counts.shrinks, ap (λ c. c.shrinks) begun.counts)
-
-    pub run_probes : (run o h).counts.probes ≡ probes_in o h
-    run_probes = omega (arith, whole_run.counts.probes, ap (λ c. c.probes) begun.counts)
+    -- the pieces and the probes that the search has counted are those of the history
+    pub run_counts : Counted (pieces o h) (probes_in o h) no_counts (run o h).counts
+    run_counts = subst (λ (c : Counts). Counted (pieces o h) (probes_in o h) c (run o h).counts) begun.counts whole_run.counts
 
     pub run_unfinished : (run o h).counts.unfinished ≡ open_in 0 o h
     run_unfinished = whole_run.unfinished ∙ ap (λ c. open_in c.unfinished o h) begun.counts
@@ -80,11 +69,11 @@ module _ (o : Search) (begun : Begun o) where
     run_standing = standing_list (readings_of o h) (run o h) run_inv
 
     pub run_places : length (standing_of (run o h)) ≡ cond (eqb (made build o h) 0) 0 (o.setup.n + 1)
-    run_places = rw (run_standing, ← run_builds) (go (run o h).counts.builds refl)
-      where
-        go : (b : ℕ) → (run o h).counts.builds ≡ b → length run_inv.vs ≡ cond (eqb b 0) 0 (o.setup.n + 1)
-        go zero e = ap length (run_inv.stands.none e)
-        go (suc b) e = rw (ne_eqb (suc b) 0 (λ q. omega arith)) (run_inv.stands.all (omega arith) ∙ rw whole_run.kept)
+    run_places =
+        rw run_standing
+        (cond_both (eqb (made build o h) 0) _ _ (λ (k : ℕ). length run_inv.vs ≡ k)
+        (λ e. ap length (run_inv.stands.none (grind (arith, nat_tests, run_counts.builds))))
+        (λ e. run_inv.stands.all (grind (arith, nat_tests, run_counts.builds)) ∙ rw whole_run.kept))
 
     pub run_vertices : (v : Vertex) → Memᴰ v (standing_of (run o h)) → (k : ℕ) × (k < length h) × (v ≡ reading o h k)
     run_vertices v m = mem_readings_of o h v (run_inv.stands.known v (rw run_standing at m))

@@ -1,16 +1,18 @@
 -- Calls on a search of the rules over an accepted history, and lists of them. Assumes nothing.
 use Rattle.std.specs.Prelude.{Ok, Err}
 use mathlib.Core.Path.{◌≡◌, refl, sym, ap, ◌∙◌}
-use mathlib.Core.Bool.{Bool, true, false, true≢false, cond, and-eq-true_iff}
+use mathlib.Core.Bool.{true, false, true≢false, and-eq-true_iff}
 use mathlib.Core.List.{List, [], ◌∷◌, ◌++◌}
 use mathlib.Core.Logic.{◌↔◌}
 use Prim.Native.Nat.{ℕ, ◌+◌, ◌<◌}
 use native.Mathlib.Omega.{arith}
 use lib.ListN.{length}
+use borrow.Author.Tests.{ne_eqb, not-true}
+use Rattle.std.proofs.lemmas.Bool.Decides.{nat_tests}
+use Rattle.std.proofs.lemmas.Bool.{cond_both}
 use Rattle.rules.specs.Refusals.{Verdict}
 use Rattle.rules.specs.Binary64.{0ᶠ}
 use Rattle.rules.specs.Simplex.{first_of}
-use borrow.Author.Tests.{ne_eqb, not-true}
 use Rattle.rules.specs.Trial.{trial}
 use Rattle.rules.specs.Accept.{run}
 use Rattle.rules.specs.Calls.{is_ended, undamaged, ask_verdict, tell_verdict, best_verdict, told_by, asking, telling, showing}
@@ -18,7 +20,6 @@ use Rattle.rules.specs.History.{Call, ask, tell, best, after1, after, joins, his
 use Rattle.rules.specs.declared.Vertex.{Vertex}
 use Rattle.rules.specs.declared.Search.{Search}
 use Rattle.rules.specs.declared.Asked.{Asked}
-use Rattle.rules.proofs.Laws.Tests.{tests}
 use Rattle.rules.proofs.Laws.Openings.{check_iff, answered_ok}
 use Rattle.rules.proofs.Laws.Histories.{Joined, joined_snoc, readings_of, run_snoc}
 use Rattle.rules.proofs.Runs.Sound.{never_damaged}
@@ -46,16 +47,14 @@ module _ (o : Search) (begun : Begun o) (h : List ℕ) (t : Joined o h) where
   tell_then_joins : (k c : ℕ) → tell_verdict (run o h) k c ≡ Ok tt → joins o h k c ≡ true
   unfolding tell_verdict
   tell_then_joins k c e =
-      let p = simp check_iff at e in
       let n = run_readings o begun h t in
-      simp and-eq-true_iff ((p.1.0, omega (arith, tests)), omega (arith, tests))
+      grind (arith, nat_tests)
 
   joins_then_tell : (k c : ℕ) → joins o h k c ≡ true → tell_verdict (run o h) k c ≡ Ok tt
   unfolding tell_verdict
   joins_then_tell k c e =
-      let p = simp and-eq-true_iff at e in
       let n = run_readings o begun h t in
-      simp check_iff (run_undamaged, (p.0.0, (omega (arith, tests), (omega (arith, tests), refl))))
+      grind (arith, nat_tests, run_undamaged)
 
   pub tell_joins : (k c : ℕ) → (tell_verdict (run o h) k c ≡ Ok tt) ↔ (joins o h k c ≡ true)
   tell_joins k c = (tell_then_joins k c, joins_then_tell k c)
@@ -66,13 +65,9 @@ module _ (o : Search) (begun : Begun o) (h : List ℕ) (t : Joined o h) where
 
   -- ---- ask
 
-  pub ask_accepted : is_ended (run o h).phase ≡ false → ask_verdict (run o h) ≡ Ok tt
-  unfolding ask_verdict
-  ask_accepted e = rw (run_undamaged, e)
-
   pub asking_answers : is_ended (run o h).phase ≡ false → asking (run o h) ≡ Ok (record { number = length h + 1; point = trial (run o h) })
-  unfolding asking
-  asking_answers e = rw (ask_accepted e, run_readings o begun h t)
+  unfolding asking ask_verdict
+  asking_answers e = rw (run_undamaged, e, run_readings o begun h t)
 
   -- ask answers only where the search has not ended, and its point is the trial of the rules
   pub asked_trial : (a : Asked) → asking (run o h) ≡ Ok a → (is_ended (run o h).phase ≡ false) × (a.point ≡ trial (run o h))
@@ -84,24 +79,20 @@ module _ (o : Search) (begun : Begun o) (h : List ℕ) (t : Joined o h) where
 
   -- ---- best
 
-  pub best_accepted : 0 < length h → best_verdict (run o h) ≡ Ok tt
-  unfolding best_verdict
-  best_accepted l = rw (run_undamaged, ne_eqb (run o h).readings 0 (λ e. omega (arith, run_readings o begun h t)))
-
   pub showing_best : 0 < length h → (k : ℕ) × EarliestLeast h k × (showing (run o h) ≡ Ok (reading o h k))
-  unfolding showing
+  unfolding showing best_verdict
   showing_best l =
       let b = run_best o begun h t l in
       let shape : ◌≡◌ {A = Vertex} (record { point = first_of (run o h).setup.n 0ᶠ (run o h).best.point; cost = (run o h).best.cost }) (run o h).best =
       λ i. record { point = best_shape o begun h t l i; cost = (run o h).best.cost } in
-      rw (best_accepted l) (b.0, b.1, ap (λ (v : Vertex). Ok v) (shape ∙ b.2))
+      rw (run_undamaged, ne_eqb (run o h).readings 0 (λ e. omega (arith, run_readings o begun h t))) (b.0, b.1, ap (λ (v : Vertex). Ok v) (shape ∙ b.2))
 
   -- ---- one call
 
   tell_joined : (k c : ℕ) → joins o h k c ≡ true → Joined o (h ++ c ∷ [])
   tell_joined k c e =
       let p = simp and-eq-true_iff at e in
-      joined_snoc o h c t (not-true (is_ended (run o h).phase) p.0.0) (omega (arith, tests))
+      joined_snoc o h c t (not-true (is_ended (run o h).phase) p.0.0) (grind (arith, nat_tests))
 
   -- the history after a call is accepted, and the search that the call returns is that of the rules over it
   abbrev Follows : Call → Type 0
@@ -111,11 +102,10 @@ module _ (o : Search) (begun : Begun o) (h : List ℕ) (t : Joined o h) where
   unfolding telling
   follows ask = (t, refl)
   follows best = (t, refl)
-  follows (tell k c) = go (joins o h k c) refl
-    where
-      go : (b : Bool) → joins o h k c ≡ b → Joined o (cond b (h ++ c ∷ []) h) × ((told_by (tell_verdict (run o h) k c) (run o h) c).search ≡ run o (cond b (h ++ c ∷ []) h))
-      go true e = (tell_joined k c e, rw ((tell_joins k c).1 e) (sym (run_snoc o h c)))
-      go false e = (t, told_refused (tell_verdict (run o h) k c) (run o h) c (λ a. true≢false (sym ((tell_joins k c).0 a) ∙ e)))
+  follows (tell k c) =
+      cond_both (joins o h k c) _ _ (λ (p : List ℕ). Joined o p × ((telling (run o h) k c).search ≡ run o p))
+      (λ e. (tell_joined k c e, rw ((tell_joins k c).1 e) (sym (run_snoc o h c))))
+      (λ e. (t, told_refused (tell_verdict (run o h) k c) (run o h) c (λ a. true≢false (sym ((tell_joins k c).0 a) ∙ e))))
 
 -- ---- a list of calls
 

@@ -1,12 +1,13 @@
 -- Moments of a history of a newly opened search: the end of a piece, of a round, of the budget, and every trial. Assumes nothing.
 use mathlib.Core.Path.{◌≡◌, refl, sym, ap, ◌∙◌, subst}
-use mathlib.Core.Bool.{Bool, true, false, false≢true}
+use mathlib.Core.Bool.{true, false, false≢true}
 use mathlib.Core.Logic.{◌↔◌}
 use mathlib.Core.List.{List, [], ◌∷◌, ◌++◌}
 use Prim.Native.Nat.{ℕ, suc, ◌+◌, ◌*◌, ◌≤◌, ◌<◌}
 use native.Mathlib.Omega.{arith}
 use lib.ListN.{length, get_or, take, drop, length-append}
 use lib.Seq.{append_snoc, split_at}
+use Rattle.std.proofs.lemmas.Bool.{true_from_ne_false}
 use Rattle.rules.specs.Numbers.{max_cost}
 use Rattle.rules.specs.Trial.{trial}
 use Rattle.rules.specs.Accept.{Piece, build, shrink, run}
@@ -18,7 +19,7 @@ use Rattle.rules.specs.declared.Vertex.{Vertex}
 use Rattle.rules.specs.declared.Setup.{Setup}
 use Rattle.rules.specs.declared.Search.{Search}
 use Rattle.rules.specs.declared.Phase.{Phase}
-use Rattle.rules.specs.declared.Phase.TheVariants.{Building, Reflecting, Expanding, Contracting, Shrinking, Probing, Ended}
+use Rattle.rules.specs.declared.Phase.TheVariants.{Ended}
 use Rattle.rules.specs.declared.Cause.TheVariants.{Settled, Budget}
 use Rattle.rules.proofs.Laws.Openings.{trial_within}
 use Rattle.rules.proofs.Laws.Histories.{readings_of, Joined, run_append, run_snoc, made_append, reading_append, joined_left, joined_right}
@@ -30,14 +31,9 @@ use Rattle.rules.proofs.Runs.Settling.{rounds, settles}
 
 -- a search that has ended without settling has ended by its budget
 by_budget : (p : Phase) → is_ended p ≡ true → (p ≡ Ended Settled → ⊥) → p ≡ Ended Budget
-by_budget (Building i) e d = absurd (false≢true e)
-by_budget Reflecting e d = absurd (false≢true e)
-by_budget (Expanding f) e d = absurd (false≢true e)
-by_budget (Contracting side f) e d = absurd (false≢true e)
-by_budget (Shrinking j) e d = absurd (false≢true e)
-by_budget (Probing p) e d = absurd (false≢true e)
 by_budget (Ended Settled) e d = absurd (d refl)
 by_budget (Ended Budget) e d = refl
+by_budget p e d = absurd (false≢true e)
 
 module _ (o : Search) (begun : Begun o) where
   -- ---- a history and what came after it
@@ -108,15 +104,11 @@ module _ (o : Search) (begun : Begun o) where
 
     -- a search with as many readings as its budget has ended
     full_ends : length h ≡ o.setup.budget → is_ended (run o h).phase ≡ true
-    full_ends l = go (is_ended (run o h).phase) refl
-      where
-        go : (e : Bool) → is_ended (run o h).phase ≡ e → is_ended (run o h).phase ≡ true
-        go true e = e
-        go false e = absurd (omega (arith, (whole_run o begun h t).below e, run_readings o begun h t, same_budget))
+    full_ends l = true_from_ne_false _ (λ e. omega (arith, (whole_run o begun h t).below e, run_readings o begun h t, same_budget))
 
     pub run_spent : ((run o h).phase ≡ Ended Budget) ↔ ((length h ≡ o.setup.budget) × ((run o h).phase ≡ Ended Settled → ⊥))
     run_spent = (
-      λ e. (omega (arith, spent_readings e, run_readings o begun h t, same_budget), λ d. let z : ◌≡◌ {A = ℕ} 0 1 = cc in omega arith),
+      λ e. (omega (arith, spent_readings e, run_readings o begun h t, same_budget), λ d. cc),
       λ g. by_budget (run o h).phase (full_ends g.0) g.1,
     )
 

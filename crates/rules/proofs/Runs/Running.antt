@@ -5,10 +5,9 @@ use mathlib.Core.List.Memᴰ
 use mathlib.Core.List.{List, [], ◌∷◌, ◌++◌, append-nil}
 use Prim.Native.Nat.{ℕ, ◌+◌, ◌≤◌}
 use native.Mathlib.Omega.{arith}
-use native.Mathlib.Nat.{not-suc-le-zero}
 use lib.Seq.{append_snoc}
 use Rattle.rules.specs.Simplex.{Ordered}
-use Rattle.rules.specs.Accept.{Piece, build, reflection, expansion, contraction, shrink, accept, run}
+use Rattle.rules.specs.Accept.{Piece, build, shrink, accept, run}
 use Rattle.rules.specs.Opening.{fresh}
 use Rattle.rules.specs.Tally.{finishes, is_probe, pieces, count_of, probes_in, open_in}
 use Rattle.rules.specs.declared.Rule.{Rule}
@@ -31,15 +30,7 @@ unfolding count_of
 counted_none c = omega arith
 
 counted_append : (ps qs : List Piece) (k l : ℕ) (c d e : Counts) → Counted ps k c d → Counted qs l d e → Counted (ps ++ qs) (k + l) c e
-counted_append ps qs k l c d e h g =
-    record {
-      builds = omega (arith, count_of_append build ps qs, h.builds, g.builds);
-      reflections = omega (arith, count_of_append reflection ps qs, h.reflections, g.reflections);
-      expansions = omega (arith, count_of_append expansion ps qs, h.expansions, g.expansions);
-      contractions = omega (arith, count_of_append contraction ps qs, h.contractions, g.contractions);
-      shrinks = omega (arith, count_of_append shrink ps qs, h.shrinks, g.shrinks);
-      probes = omega (arith, h.probes, g.probes);
-    }
+counted_append ps qs k l c d e h g = grind (arith, count_of_append, h, g)
 
 -- ---- the run
 
@@ -60,12 +51,7 @@ ran_none rs s inv below = record { inv = rw append-nil inv; below = below; kept 
 falls_append : (ps qs : List Piece) (a b c : ℕ)
     → (count_of build ps ≡ 0 → count_of shrink ps ≡ 0 → others_in ps + b ≤ a) → (count_of build qs ≡ 0 → count_of shrink qs ≡ 0 → others_in qs + c ≤ b)
     → count_of build (ps ++ qs) ≡ 0 → count_of shrink (ps ++ qs) ≡ 0 → others_in (ps ++ qs) + c ≤ a
-falls_append ps qs a b c h g x y =
-    let builds = count_of_append build ps qs in
-    let shrinks = count_of_append shrink ps qs in
-    let first = h (omega arith) (omega arith) in
-    let second = g (omega arith) (omega arith) in
-    rw (count_of_append reflection ps qs, count_of_append expansion ps qs, count_of_append contraction ps qs) (omega arith)
+falls_append ps qs a b c h g x y = grind (arith, count_of_append, h, g, x, y)
 
 ran_more : (rs : List Vertex) (s : Search) (c : ℕ) (h : List ℕ) → TakesReading (rs ▹ reading_of s c) (finishes s.phase s c) (is_probe s.phase) s (accept s c)
     → Ran (rs ▹ reading_of s c) (accept s c) h → Ran rs s (c ∷ h)
@@ -98,21 +84,11 @@ module _ (n : ℕ) (axes : List Axis) (rule : Option Rule) (c : Coefficients) (b
       record {
         vs = [];
         gs = [];
-        noted = record { sane = sane; told = refl; below = omega arith; shapes = λ v m. absurd (Memᴰ.not-nil m); least = λ l. absurd (not-suc-le-zero l); low = omega arith };
-        stands = record { are = refl; none = λ e. refl; all = λ l. absurd (not-suc-le-zero l); sorted = tt; known = λ v m. m };
+        noted = record { sane = sane; told = refl; below = omega arith; shapes = λ v m. absurd (Memᴰ.not-nil m); least = λ l. absurd (omega arith); low = omega arith };
+        stands = record { are = refl; none = λ e. refl; all = λ l. absurd (omega arith); sorted = tt; known = λ v m. m };
         gathers = record { are = refl; known = λ v m. m };
         equation = omega arith;
-        phase =
-            record {
-              high = omega arith;
-              many = refl;
-              sorted = tt;
-              leads = λ l. absurd (not-suc-le-zero l);
-              unfinished = refl;
-              first = λ e. refl;
-              again = λ l. absurd (not-suc-le-zero l);
-              some = λ l. absurd (not-suc-le-zero l);
-            };
+        phase = grind arith;
       }
 
   pub fresh_below : BelowBudget (fresh n axes rule c budget)

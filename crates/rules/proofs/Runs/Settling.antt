@@ -2,12 +2,14 @@
 use mathlib.Core.Path.{◌≡◌, refl, sym, ap, ◌∙◌, subst}
 use mathlib.Core.Bool.{true, false, true≢false}
 use mathlib.Core.List.{List, [], ◌∷◌, ◌++◌, append_assoc, append-nil}
-use mathlib.Core.Logic.{◌≢◌, ⊎_elim}
+use mathlib.Core.Logic.{◌≢◌}
 use Prim.Native.Nat.{ℕ, zero, suc, ◌+◌, ◌*◌, ◌≤◌, ◌<◌, suc-le-suc}
 use native.Mathlib.Omega.{arith}
 use native.Mathlib.Nat.{not-suc-le-zero}
 use lib.ListN.{length, get_or, length-append}
 use lib.Seq.{append_snoc}
+use Rattle.std.proofs.lemmas.Bool.Decides.{nat_tests}
+use Rattle.std.proofs.lemmas.List.{places}
 use Rattle.rules.specs.Numbers.{max_cost}
 use Rattle.rules.specs.Accept.{best_after, noted, ends_round, is_full, probed_on, advanced, spent_phase, is_spent, budgeted, accept, run}
 use Rattle.rules.specs.Calls.{is_ended}
@@ -17,12 +19,12 @@ use Rattle.rules.specs.declared.Vertex.{Vertex}
 use Rattle.rules.specs.declared.Setup.{Setup}
 use Rattle.rules.specs.declared.Search.{Search}
 use Rattle.rules.specs.declared.Phase.{Phase}
-use Rattle.rules.specs.declared.Phase.TheVariants.{Building, Reflecting, Expanding, Contracting, Shrinking, Probing, Ended}
+use Rattle.rules.specs.declared.Phase.TheVariants.{Building, Probing, Ended}
 use Rattle.rules.specs.declared.Cause.TheVariants.{Settled, Budget}
-use Rattle.rules.proofs.Laws.Tests.{tests, pick_elim, spent_elim}
+use Rattle.rules.proofs.Laws.Tests.{pick_elim, spent_elim}
 use Rattle.rules.proofs.Laws.Histories.{reading_of, Joined, run_snoc}
 use Rattle.rules.proofs.Steps.Invariant.{Inv}
-use Rattle.rules.proofs.Steps.Noting.{◌▹◌, best_stays, below_snoc, old_cost, new_cost}
+use Rattle.rules.proofs.Steps.Noting.{◌▹◌, best_stays}
 use Rattle.rules.proofs.Steps.Stepping.{NoRound}
 use Rattle.rules.proofs.Steps.Accepting.{BelowBudget, accept_step, accept_below}
 
@@ -58,8 +60,8 @@ module _ (s : Search) (c j : ℕ) (e : s.phase ≡ Probing j) where
   unfolding probed_on
   before_budget =
       let P : Search → Type 0 = λ u. Outcome s.best.cost c j s.setup.n u.phase in
-      pick_elim P (ends_round c s.best.cost) (λ t. restarting (omega (arith, tests)) refl)
-      (λ t. pick_elim P (is_full j s) (λ d. settling (omega (arith, tests)) (omega (arith, tests)) refl) (λ d. going (omega (arith, tests)) (omega (arith, tests)) refl))
+      pick_elim P (ends_round c s.best.cost) (λ t. restarting (grind (arith, nat_tests)) refl)
+      (λ t. pick_elim P (is_full j s) (λ d. settling (grind (arith, nat_tests)) (grind (arith, nat_tests)) refl) (λ d. going (grind (arith, nat_tests)) (grind (arith, nat_tests)) refl))
 
   outcome : Outcome s.best.cost c j s.setup.n (accept s c).phase
   outcome =
@@ -67,13 +69,9 @@ module _ (s : Search) (c j : ℕ) (e : s.phase ≡ Probing j) where
       let P = Outcome s.best.cost c j s.setup.n in
       subst P (ap (λ (x : Search). x.phase) (sym probed)) (spent_elim P (is_spent u) (λ t. spend s.best.cost c j s.setup.n u.phase before_budget) (λ t. before_budget))
 
-  -- a probe comes after readings
-  some_read : (rs : List Vertex) → Inv rs s → 1 ≤ s.readings
-  some_read rs inv = (rw e at inv.phase).0.some
-
   -- a probe that is not lower leaves the best cost
   best_kept : (rs : List Vertex) → Inv rs s → s.best.cost ≤ c → (accept s c).best.cost ≡ s.best.cost
-  best_kept rs inv l = ap (λ (v : Vertex). v.cost) (best_after_lem ∙ best_stays s.readings (reading_of s c) s.best (some_read rs inv) l)
+  best_kept rs inv l = ap (λ (v : Vertex). v.cost) (best_after_lem ∙ best_stays s.readings (reading_of s c) s.best (rw e at inv.phase).0.some l)
 
 -- ---- a full round settles
 
@@ -94,7 +92,7 @@ earlier_goes b c j n q (stopping k e) h m live = absurd (true≢false (sym (ap i
 pub settles : (rs : List Vertex) (s : Search) → Inv rs s → BelowBudget s → (q : List ℕ) (j : ℕ) → s.phase ≡ Probing j → j + length q ≡ 2 * s.setup.n → 1 ≤ length q
     → ((i : ℕ) → i < length q → s.best.cost ≤ get_or q i 0) → Joined s q → (run s q).phase ≡ Ended Settled
 unfolding run Joined
-settles rs s inv below [] j e many some low t = absurd (not-suc-le-zero some)
+settles rs s inv below [] j e many some low t = absurd (omega arith)
 settles rs s inv below (c ∷ []) j e many some low t = last_settles s.best.cost c j s.setup.n (accept s c).phase (outcome s c j e) (low 0 (omega arith)) many
 settles rs s inv below (c ∷ d ∷ q) j e many some low t =
     let l = low 0 (omega arith) in
@@ -117,26 +115,16 @@ pub record Round (o : Search) (h : List ℕ) (j b : ℕ) : Type 0 where
   pub same : (run o before).best.cost ≡ b
 
 abbrev pub Rounds : Search → List ℕ → ℕ → Phase → Type 0
-Rounds o h b (Building i) = Unit {0}
-Rounds o h b Reflecting = Unit {0}
-Rounds o h b (Expanding f) = Unit {0}
-Rounds o h b (Contracting side f) = Unit {0}
-Rounds o h b (Shrinking j) = Unit {0}
 Rounds o h b (Probing j) = Round o h j b
 Rounds o h b (Ended Settled) = (before : List ℕ) × (round : List ℕ) × (h ≡ before ++ round) × FullRound o before round
-Rounds o h b (Ended Budget) = Unit {0}
+Rounds o h b p = Unit {0}
 
 -- a round begins with no cost told
 round_begins : (o : Search) (h : List ℕ) (p : Phase) → (run o h).phase ≡ p → NoRound p → Rounds o h (run o h).best.cost p
-round_begins o h (Building i) e f = tt
-round_begins o h Reflecting e f = tt
-round_begins o h (Expanding g) e f = tt
-round_begins o h (Contracting side g) e f = tt
-round_begins o h (Shrinking j) e f = tt
 round_begins o h (Probing zero) e f = record { before = h; round = []; splits = rw append-nil; begins = e; many = refl; none_lower = λ i l. absurd (not-suc-le-zero l); same = refl }
 round_begins o h (Probing (suc p)) e f = absurd f
 round_begins o h (Ended Settled) e f = absurd f
-round_begins o h (Ended Budget) e f = tt
+round_begins o h p e f = tt
 
 -- one more cost that is not lower than the best makes a round one cost longer
 round_more : (o : Search) (h : List ℕ) (j b c d : ℕ) → Round o h j b → b ≤ c → d ≡ b → Round o (h ++ c ∷ []) (j + 1) d
@@ -147,7 +135,7 @@ round_more o h j b c d r l e =
       splits = rw r.splits (append_assoc r.before r.round (c ∷ []));
       begins = r.begins;
       many = length-append r.round (c ∷ []) ∙ rw r.many;
-      none_lower = λ i m. ⊎_elim (λ (q : i ≡ length r.round). rw (q, new_cost r.round c) (omega (arith, r.same))) (λ n. rw (old_cost r.round c i n) (r.none_lower i n)) (below_snoc r.round c i m);
+      none_lower = λ i m. grind (arith, places, r.same, r.none_lower i);
       same = r.same ∙ sym e;
     }
 
@@ -177,13 +165,8 @@ module _ (o : Search) (h : List ℕ) (s : Search) (is : run o h ≡ s) (rs : Lis
       round_on o h j s.best.cost c (accept s c).best.cost (accept s c).phase r n (best_kept s c j e rs inv)
 
   round_step : (p : Phase) → s.phase ≡ p → Rounds o h s.best.cost p → Rounds o (h ++ c ∷ []) (accept s c).best.cost (accept s c).phase
-  round_step (Building i) e r = new_round (ap is_probe e)
-  round_step Reflecting e r = new_round (ap is_probe e)
-  round_step (Expanding f) e r = new_round (ap is_probe e)
-  round_step (Contracting side f) e r = new_round (ap is_probe e)
-  round_step (Shrinking j) e r = new_round (ap is_probe e)
   round_step (Probing j) e r = same_round j e r
-  round_step (Ended cause) e r = new_round (ap is_probe e)
+  round_step p e r = new_round (ap is_probe e)
 
 pub rounds : (o : Search) (p : List ℕ) (s : Search) → run o p ≡ s → (rs : List Vertex) → Inv rs s → BelowBudget s → s.setup ≡ o.setup → Rounds o p s.best.cost s.phase
     → (q : List ℕ) → Joined s q → Rounds o (p ++ q) (run s q).best.cost (run s q).phase

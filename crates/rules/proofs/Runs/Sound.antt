@@ -1,44 +1,35 @@
 -- Refusal 12 is never given to a search that an opening and calls have made. Assumes nothing.
 use mathlib.Core.Path.{◌≡◌, refl, ap}
-use mathlib.Core.Bool.{Bool, true, false, ◌||◌, and-eq-true_iff}
+use mathlib.Core.Bool.{true}
 use mathlib.Core.List.{List, Memᴰ}
-use Prim.Native.Nat.{ℕ, zero, suc, ◌*◌, ◌≤◌, ◌<◌}
+use Prim.Native.Nat.{ℕ, ◌*◌, ◌≤◌, ◌<◌}
 use native.Mathlib.Omega.{arith}
 use native.Mathlib.Nat.{mul-le-mul_right}
 use lib.ListN.{length}
-use lib.Dec.{eqb, leb}
-use borrow.Author.Tests.{le-leb}
+use mathlib.Core.Logic.{⊎_elim}
+use Rattle.std.proofs.lemmas.Bool.Decides.{nat_tests}
+use Rattle.std.proofs.lemmas.Bool.{cases_Bool, or_left, or_right}
 use Rattle.rules.specs.Numbers.{max_cost}
 use Rattle.rules.specs.Simplex.{up_to, unpack, Ordered, cost_of}
-use Rattle.rules.specs.Calls.{is_ended, sound_phase, gathered_in, standing_of, in_order, sound, undamaged}
+use Rattle.rules.specs.Calls.{is_ended, sound_phase, gathered_in, standing_of, in_order, all_costs, sound, undamaged}
 use Rattle.rules.specs.declared.Vertex.{Vertex}
 use Rattle.rules.specs.declared.Search.{Search}
 use Rattle.rules.specs.declared.Phase.{Phase}
-use Rattle.rules.specs.declared.Phase.TheVariants.{Building, Reflecting, Expanding, Contracting, Shrinking, Probing, Ended}
-use Rattle.rules.proofs.Laws.Tests.{tests}
+use Rattle.rules.specs.declared.Phase.TheVariants.{Building, Expanding, Contracting, Shrinking, Probing}
 use Rattle.rules.proofs.Laws.Order.{in_order_lem}
 use Rattle.rules.proofs.Laws.Places.{costs_pack}
 use Rattle.rules.proofs.Steps.Invariant.{Known, At, Inv}
 use Rattle.rules.proofs.Steps.Stepping.{standing_are, gathered_are}
 use Rattle.rules.proofs.Steps.Accepting.{BelowBudget}
 
-or_right : (a b : Bool) → b ≡ true → (a || b) ≡ true
-or_right true b h = refl
-or_right false b h = h
-
-first_or_later : (b i : ℕ) → (1 ≤ b → 1 ≤ i) → (eqb b 0 || leb 1 i) ≡ true
-first_or_later zero i h = refl
-first_or_later (suc b) i h = or_right (eqb (suc b) 0) (leb 1 i) (le-leb 1 i (h (omega arith)))
-
 module _ (rs : List Vertex) (s : Search) (inv : Inv rs s) where
   phase_sound : (p : Phase) → At p s.setup s.standing inv.vs inv.gs s.readings s.counts s.best → sound_phase s.setup.n s.counts.builds p ≡ true
-  phase_sound (Building i) h = simp and-eq-true_iff (omega (arith, tests, h.high), first_or_later s.counts.builds i h.again)
-  phase_sound Reflecting h = refl
-  phase_sound (Expanding f) h = omega (arith, tests, inv.noted.low, ap cost_of h.1.reflects)
-  phase_sound (Contracting side f) h = omega (arith, tests, h.1.low)
-  phase_sound (Shrinking j) h = simp and-eq-true_iff (omega (arith, tests, h.low, h.high))
-  phase_sound (Probing p) h = omega (arith, tests, h.2)
-  phase_sound (Ended cause) h = refl
+  phase_sound (Building i) h = grind (arith, nat_tests, h.high, h.again)
+  phase_sound (Expanding f) h = grind (arith, nat_tests, inv.noted.low, ap cost_of h.1.reflects)
+  phase_sound (Contracting side f) h = grind (arith, nat_tests, h.1.low)
+  phase_sound (Shrinking j) h = grind (arith, nat_tests, h.low, h.high)
+  phase_sound (Probing p) h = grind (arith, nat_tests, h.2)
+  phase_sound p h = refl
 
   none_in_order : in_order (unpack 0 s.gathered) ≡ true
   unfolding unpack up_to in_order
@@ -49,12 +40,8 @@ module _ (rs : List Vertex) (s : Search) (inv : Inv rs s) where
 
   gathered_in_order : (p : Phase) → At p s.setup s.standing inv.vs inv.gs s.readings s.counts s.best → in_order (unpack (gathered_in p) s.gathered) ≡ true
   gathered_in_order (Building i) h = some_in_order i h.many h.sorted
-  gathered_in_order Reflecting h = none_in_order
-  gathered_in_order (Expanding f) h = none_in_order
-  gathered_in_order (Contracting side f) h = none_in_order
   gathered_in_order (Shrinking j) h = some_in_order j h.many h.sorted
-  gathered_in_order (Probing p) h = none_in_order
-  gathered_in_order (Ended cause) h = none_in_order
+  gathered_in_order p h = none_in_order
 
   pub standing_list : standing_of s ≡ inv.vs
   standing_list = standing_are rs inv.vs s.setup s.readings s.best s.counts.builds s.standing inv.noted inv.stands
@@ -69,20 +56,10 @@ module _ (rs : List Vertex) (s : Search) (inv : Inv rs s) where
       let t = inv.noted.sane in
       let builds : 1 * s.counts.builds ≤ s.setup.n * s.counts.builds = mul-le-mul_right s.counts.builds t.at_least in
       let standing : in_order (standing_of s) ≡ true = rw standing_list (in_order_lem inv.vs inv.stands.sorted) in
-      simp and-eq-true_iff (
-        (
-          (
-            ((((omega (arith, tests, t.at_least, t.at_most8, t.not_much, inv.equation), t.rule), phase_sound s.phase inv.phase), standing), gathered_in_order s.phase inv.phase),
-            rw inv.stands.are (costs_pack inv.vs (low_costs inv.vs inv.stands.known)),
-          ),
-          rw inv.gathers.are (costs_pack inv.gs (low_costs inv.gs inv.gathers.known)),
-        ),
-        omega (arith, tests, inv.noted.low),
-      )
+      let gathered = gathered_in_order s.phase inv.phase in
+      let standing_costs : all_costs s.standing.costs ≡ true = rw inv.stands.are (costs_pack inv.vs (low_costs inv.vs inv.stands.known)) in
+      let gathered_costs : all_costs s.gathered.costs ≡ true = rw inv.gathers.are (costs_pack inv.gs (low_costs inv.gs inv.gathers.known)) in
+      grind (arith, nat_tests, t.at_least, t.at_most8, t.not_much, t.rule, inv.equation, inv.noted.low, phase_sound s.phase inv.phase)
 
   pub never_damaged : BelowBudget s → undamaged s ≡ true
-  never_damaged below = go (is_ended s.phase) refl
-    where
-      go : (b : Bool) → is_ended s.phase ≡ b → (b || sound s) ≡ true
-      go true e = refl
-      go false e = sound_live (below e)
+  never_damaged below = ⊎_elim (or_left _ _) (λ e. or_right _ _ (sound_live (below e))) (cases_Bool (is_ended s.phase))

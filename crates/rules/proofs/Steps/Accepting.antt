@@ -4,6 +4,7 @@ use mathlib.Core.Bool.{true, false, true≢false}
 use mathlib.Core.List.{List}
 use Prim.Native.Nat.{ℕ, ◌+◌, ◌≤◌, ◌<◌}
 use native.Mathlib.Omega.{arith}
+use Rattle.std.proofs.lemmas.Bool.Decides.{nat_tests}
 use Rattle.rules.specs.Numbers.{max_cost}
 use Rattle.rules.specs.Simplex.{point}
 use Rattle.rules.specs.Trial.{trial, asked}
@@ -16,7 +17,7 @@ use Rattle.rules.specs.declared.Phase.{Phase}
 use Rattle.rules.specs.declared.Phase.TheVariants.{Building, Reflecting, Expanding, Contracting, Shrinking, Probing, Ended}
 use Rattle.rules.specs.declared.Cause.{Cause}
 use Rattle.rules.specs.declared.Cause.TheVariants.{Budget}
-use Rattle.rules.proofs.Laws.Tests.{tests, spent_elim}
+use Rattle.rules.proofs.Laws.Tests.{spent_elim}
 use Rattle.rules.proofs.Laws.Lists.{length_point, point_again}
 use Rattle.rules.proofs.Laws.Histories.{reading_of}
 use Rattle.rules.proofs.Steps.Invariant.{ReadingShape, Noted, At, Inv}
@@ -44,13 +45,8 @@ module _ (rs : List Vertex) (v : Vertex) (s : Search) (inv : Inv rs s) (after : 
 
 -- a spent search has ended, with cause budget unless it had ended before
 pub spent_cases : (P : Phase → Type 0) (p : Phase) → P (Ended Budget) → ((cause : Cause) → p ≡ Ended cause → P (Ended cause)) → P (spent_phase true p)
-spent_cases P (Building i) b e = b
-spent_cases P Reflecting b e = b
-spent_cases P (Expanding f) b e = b
-spent_cases P (Contracting side f) b e = b
-spent_cases P (Shrinking j) b e = b
-spent_cases P (Probing p) b e = b
 spent_cases P (Ended cause) b e = e cause refl
+spent_cases P p b e = b
 
 spent_ends : (p : Phase) → is_ended (spent_phase true p) ≡ true
 spent_ends p = spent_cases (λ (q : Phase). is_ended q ≡ true) p refl (λ cause e. refl)
@@ -60,7 +56,7 @@ spent_at : (u : Search) (vs gs : List Vertex) → At u.phase u.setup u.standing 
     → At (budgeted u).phase u.setup u.standing vs gs u.readings u.counts u.best
 spent_at u vs gs h =
     let P : Phase → Type 0 = λ p. At p u.setup u.standing vs gs u.readings u.counts u.best in
-    spent_elim P (is_spent u) (λ e. spent_cases P u.phase (omega (arith, tests)) (λ cause q. subst P q h)) (λ e. h)
+    spent_elim P (is_spent u) (λ e. spent_cases P u.phase (grind (arith, nat_tests)) (λ cause q. subst P q h)) (λ e. h)
 
 -- the budget settles no search
 spent_no_round : (u : Search) → NoRound u.phase → NoRound (budgeted u).phase
@@ -74,7 +70,7 @@ below_budget : (rs : List Vertex) (u : Search) → Inv rs u → BelowBudget (bud
 below_budget rs u inv =
     spent_elim (λ (p : Phase). is_ended p ≡ false → u.readings < u.setup.budget) (is_spent u)
     (λ e l. absurd (true≢false (sym (spent_ends u.phase) ∙ l)))
-    (λ e l. omega (arith, tests, inv.noted.below))
+    (λ e l. grind (arith, nat_tests, inv.noted.below))
 
 budget_step : (rs : List Vertex) (ps : List Piece) (probe : ℕ) (s u : Search) → TakesReading rs ps probe s u → TakesReading rs ps probe s (budgeted u)
 budget_step rs ps probe s u h =

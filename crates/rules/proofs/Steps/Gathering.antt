@@ -5,29 +5,25 @@ use Prim.Native.Nat.{ℕ, zero, suc, ◌+◌, ◌≤◌, ◌<◌}
 use native.Mathlib.Omega.{arith}
 use lib.ListN.{length}
 use lib.Ieee.{Float}
+use Rattle.std.proofs.lemmas.Bool.Decides.{nat_tests}
+use Rattle.std.proofs.lemmas.List.{nil_from_length}
 use Rattle.rules.specs.Simplex.{pack, unpack, insert}
 use Rattle.rules.specs.Accept.{build, shrink, add_open, best_after, noted, is_last, finished, waiting, with_gathered, first_open, built_on, shrunk_on}
 use Rattle.rules.specs.Tally.{count_of, finishes}
 use Rattle.rules.specs.declared.Vertex.{Vertex}
 use Rattle.rules.specs.declared.Search.{Search}
 use Rattle.rules.specs.declared.Phase.TheVariants.{Building, Shrinking}
-use Rattle.rules.proofs.Laws.Tests.{tests, pick_elim}
+use Rattle.rules.proofs.Laws.Tests.{pick_elim}
 use Rattle.rules.proofs.Laws.Order.{length_insert, ordered_insert}
 use Rattle.rules.proofs.Steps.Invariant.{Leads, Gathers, AtBuild, AtShrink, Inv}
 use Rattle.rules.proofs.Steps.Noting.{◌▹◌, NotedWith, known_more, known_new, leads_on}
 use Rattle.rules.proofs.Steps.Stepping.{TakesReading, pieces_are, gathered_are, finish}
-use Rattle.rules.proofs.Laws.Finishing.{last_ends, other_more}
-use Rattle.rules.proofs.Steps.Moving.{known_insert, goes_on, begins}
-
--- a list with no element
-empty : (vs : List Vertex) → length vs ≡ 0 → vs ≡ []
-empty [] e = refl
-empty (v ∷ vs) e = let z : suc (length vs) ≡ 0 = e in absurd (omega arith)
+use Rattle.rules.proofs.Steps.Moving.{known_insert, goes, goes_on}
 
 -- the first of the gathered vertices is the best, after the first trial too
 leads_build : (i : ℕ) (gs : List Vertex) (v b : Vertex) (k : ℕ) → length gs ≡ i → (1 ≤ i → Leads gs b) → (1 ≤ i → 1 ≤ k) → (i ≡ 0 → k ≡ 0) → Leads (insert v gs) (best_after k v b)
 unfolding insert
-leads_build zero gs v b k e h l z = rw (empty gs e, z refl)
+leads_build zero gs v b k e h l z = rw (nil_from_length gs e, z refl)
 leads_build (suc i) gs v b k e h l z = leads_on gs v b k (l (omega arith)) (h (omega arith))
 
 -- a trial other than the first is always open
@@ -49,11 +45,7 @@ module _ (rs : List Vertex) (v : Vertex) (s : Search) (inv : Inv rs s) (after : 
   module _ (i : ℕ) (h : AtBuild i s.setup.n inv.gs s.readings s.counts s.best) where
     -- where no trial of the build is told yet, it is the first build
     first_build : i ≡ 0 → s.counts.builds ≡ 0
-    first_build e = go s.counts.builds refl
-      where
-        go : (b : ℕ) → s.counts.builds ≡ b → s.counts.builds ≡ 0
-        go zero q = q
-        go (suc b) q = let l : 1 ≤ i = h.again (omega arith) in absurd (omega arith)
+    first_build e = grind (arith, h.again)
 
     none_yet : i ≡ 0 → s.readings ≡ 0
     none_yet e = h.first (first_build e) ∙ e
@@ -81,12 +73,14 @@ module _ (rs : List Vertex) (v : Vertex) (s : Search) (inv : Inv rs s) (after : 
           some = λ m. omega arith;
         }
 
+    -- the first reading of all is not open, every other one is
     build_on : (j : ℕ) → i ≡ j → i < s.setup.n → TakesReading (rs ▹ v) [] 0 s (waiting (Building (i + 1)) (first_open s.counts.builds i) (with_gathered (insert v inv.gs) (noted v s)))
+    unfolding count_of
     build_on zero e l =
         let f : first_open s.counts.builds i ≡ 0 = rw (first_build e, e) in
         rw f
-        (begins rs v s inv after (Building (i + 1)) (insert v inv.gs) (pack (insert v inv.gs)) gathers_on (none_yet e) (omega (arith, h.unfinished))
-        (build_next 0 (omega (arith, h.unfinished)) l) tt)
+        (goes rs v s inv after 0 (Building (i + 1)) (insert v inv.gs) (pack (insert v inv.gs)) s.center (add_open 0 s.counts) (omega arith) refl gathers_on
+        (omega (arith, inv.equation, none_yet e)) (grind (arith, nat_tests, none_yet e, h.unfinished)) (build_next 0 (omega (arith, h.unfinished)) l) (λ q. tt))
     build_on (suc j) e l =
         let f : first_open s.counts.builds i ≡ 1 = ap (first_open s.counts.builds) e ∙ later_open s.counts.builds j in
         rw f
@@ -98,8 +92,8 @@ module _ (rs : List Vertex) (v : Vertex) (s : Search) (inv : Inv rs s) (after : 
     build_step =
         rw (gathered i h.many)
         (pick_elim (TakesReading (rs ▹ v) (finishes (Building i) s v.cost) 0 s) (is_last i s)
-        (λ e. pieces_are (last_ends build i s.setup.n (omega (arith, tests))) (build_ends (omega (arith, tests))))
-        (λ e. pieces_are (other_more build i s.setup.n (omega (arith, tests))) (build_on i refl (omega (arith, tests, h.high)))))
+        (λ e. pieces_are (rw e) (build_ends (grind (arith, nat_tests))))
+        (λ e. pieces_are (rw e) (build_on i refl (grind (arith, nat_tests, h.high)))))
 
   -- ---- a shrink
 
@@ -131,7 +125,7 @@ module _ (rs : List Vertex) (v : Vertex) (s : Search) (inv : Inv rs s) (after : 
     shrink_step =
         rw (gathered j h.many)
         (pick_elim (TakesReading (rs ▹ v) (finishes (Shrinking j) s v.cost) 0 s) (is_last j s)
-        (λ e. pieces_are (last_ends shrink j s.setup.n (omega (arith, tests))) (shrink_ends _ _ (omega (arith, tests))))
+        (λ e. pieces_are (rw e) (shrink_ends _ _ (grind (arith, nat_tests))))
         (λ e.
-        pieces_are (other_more shrink j s.setup.n (omega (arith, tests)))
-        (goes_on rs v s inv after _ (insert v inv.gs) _ gathers_on h.some (shrink_next (omega (arith, tests, h.high))) tt)))
+        pieces_are (rw e)
+        (goes_on rs v s inv after _ (insert v inv.gs) _ gathers_on h.some (shrink_next (grind (arith, nat_tests, h.high))) tt)))

@@ -6,6 +6,7 @@ use Prim.Native.Nat.{ℕ, ◌+◌, ◌-◌, ◌≤◌, ◌<◌}
 use native.Mathlib.Omega.{arith}
 use native.Mathlib.Nat.{not-suc-le-zero}
 use lib.ListN.{length, get_or}
+use Rattle.std.proofs.lemmas.Bool.Decides.{nat_tests}
 use Rattle.rules.specs.Numbers.{max_cost}
 use Rattle.rules.specs.Simplex.{point, blank, place, pack, cost_of, Ordered}
 use Rattle.rules.specs.Trial.{reflected}
@@ -16,19 +17,19 @@ use Rattle.rules.specs.declared.Search.{Search}
 use Rattle.rules.specs.declared.Side.{Side}
 use Rattle.rules.specs.declared.Side.TheVariants.{Outside, Inside}
 use Rattle.rules.specs.declared.Phase.TheVariants.{Reflecting, Expanding, Contracting}
-use Rattle.rules.proofs.Laws.Tests.{tests, better_elim, pick_elim}
+use Rattle.rules.proofs.Laws.Tests.{better_elim, pick_elim}
 use Rattle.rules.proofs.Laws.Order.{first_lower, ordered_at}
 use Rattle.rules.proofs.Laws.Places.{place_pack, cost_pack}
 use Rattle.rules.proofs.Steps.Invariant.{Known, Leads, Gathers, Idle, RowBound, AtExpand, AtContract, Inv}
 use Rattle.rules.proofs.Steps.Noting.{◌▹◌, NotedWith, best_mem, known_more, known_new, best_falls, best_stays, leads_on}
-use Rattle.rules.proofs.Laws.Finishing.{row1_more, row2_ends, later_rows, contract_ends, contract_more}
+use Rattle.rules.proofs.Laws.Finishing.{contract_ends, contract_more}
 use Rattle.rules.proofs.Steps.Stepping.{TakesReading, pieces_are, whole}
 use Rattle.rules.proofs.Steps.Moving.{takes, goes_on}
 
 -- ---- who is first
 
 pub leads_at : (vs : List Vertex) (b : Vertex) → Leads vs b → get_or vs 0 blank ≡ b
-leads_at [] b h = let z : ◌≡◌ {A = ℕ} 0 1 = cc in absurd (omega arith)
+leads_at [] b h = cc
 leads_at (v ∷ vs) b h = cc
 
 leads_self : (vs : List Vertex) → 1 ≤ length vs → Leads vs (get_or vs 0 blank)
@@ -89,15 +90,15 @@ module _ (rs : List Vertex) (v : Vertex) (s : Search) (inv : Inv rs s) (after : 
         let f = v.cost in
         let P = TakesReading (rs ▹ v) (finishes Reflecting s f) 0 s in
         pick_elim P (row1 f s)
-        (λ a. pieces_are (row1_more s f (omega (arith, tests))) (goes_expanding shape (omega (arith, tests))))
+        (λ a. pieces_are (rw a) (goes_expanding shape (grind (arith, nat_tests))))
         (λ a.
         pick_elim P (row2 f s)
-        (λ b. pieces_are (row2_ends s f (omega (arith, tests)) (omega (arith, tests))) (takes_reflected (omega (arith, tests)) (omega (arith, tests))))
+        (λ b. pieces_are (rw (a, b)) (takes_reflected (grind (arith, nat_tests)) (grind (arith, nat_tests))))
         (λ b.
-        pieces_are (later_rows s f (omega (arith, tests)) (omega (arith, tests)))
+        pieces_are (rw (a, b))
         (pick_elim (TakesReading (rs ▹ v) [] 0 s) (row3 f s)
-        (λ c. goes_contracting Outside (omega (arith, tests)) (omega (arith, tests, carries s.setup.n)))
-        (λ c. goes_contracting Inside (omega (arith, tests)) tt))))
+        (λ c. goes_contracting Outside (grind (arith, nat_tests)) (grind (arith, nat_tests, carries s.setup.n)))
+        (λ c. goes_contracting Inside (grind (arith, nat_tests)) tt))))
 
   -- ---- the expanded point
 
@@ -119,10 +120,10 @@ module _ (rs : List Vertex) (v : Vertex) (s : Search) (inv : Inv rs s) (after : 
     expand_step =
         let r = reflected_vertex fr s in
         better_elim (λ (u : Vertex). TakesReading (rs ▹ v) (expansion ∷ []) 0 s (taken expansion u (noted v s))) (wins_expanded fr v.cost s)
-        (λ e. takes_lower v (known_new rs v) (omega (arith, tests)) (best_falls s.readings v s.best idle.some (omega (arith, tests, reflected_cost))))
+        (λ e. takes_lower v (known_new rs v) (grind (arith, nat_tests)) (best_falls s.readings v s.best idle.some (grind (arith, nat_tests, reflected_cost))))
         (λ e.
         takes_lower r (Memᴰ.cast (sym h.reflects) (best_known idle.some)) (omega arith)
-        (best_stays s.readings v s.best idle.some (omega (arith, tests, reflected_cost)) ∙ h.reflects))
+        (best_stays s.readings v s.best idle.some (grind (arith, nat_tests, reflected_cost)) ∙ h.reflects))
 
   -- ---- the contracted point
 
@@ -151,11 +152,11 @@ module _ (rs : List Vertex) (v : Vertex) (s : Search) (inv : Inv rs s) (after : 
     unfolding contracted_on
     contract_step Outside h =
         pick_elim (TakesReading (rs ▹ v) (finishes (Contracting Outside fr) s v.cost) 0 s) (wins Outside fr v.cost s)
-        (λ e. pieces_are (contract_ends s v.cost Outside fr e) (takes_contracted Outside h (omega (arith, tests, h.row))))
-        (λ e. pieces_are (contract_more s v.cost Outside fr e) (goes_shrinking Outside h (omega (arith, tests, h.higher))))
+        (λ e. pieces_are (contract_ends s v.cost Outside fr e) (takes_contracted Outside h (grind (arith, nat_tests, h.row))))
+        (λ e. pieces_are (contract_more s v.cost Outside fr e) (goes_shrinking Outside h (grind (arith, nat_tests, h.higher))))
     contract_step Inside h =
         let w = carries s.setup.n in
         let q : (get_or inv.vs 0 blank).cost ≡ s.best.cost = ap cost_of (leads_at inv.vs s.best h.leads) in
         pick_elim (TakesReading (rs ▹ v) (finishes (Contracting Inside fr) s v.cost) 0 s) (wins Inside fr v.cost s)
-        (λ e. pieces_are (contract_ends s v.cost Inside fr e) (takes_contracted Inside h (omega (arith, tests))))
-        (λ e. pieces_are (contract_more s v.cost Inside fr e) (goes_shrinking Inside h (omega (arith, tests, in_place 0 idle.stood (omega arith)))))
+        (λ e. pieces_are (contract_ends s v.cost Inside fr e) (takes_contracted Inside h (grind (arith, nat_tests))))
+        (λ e. pieces_are (contract_more s v.cost Inside fr e) (goes_shrinking Inside h (grind (arith, nat_tests, in_place 0 idle.stood (omega arith)))))

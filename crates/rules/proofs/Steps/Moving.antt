@@ -6,10 +6,10 @@ use mathlib.Core.List.{List, [], ◌∷◌, map, Memᴰ}
 use mathlib.Core.Logic.{⊎_elim}
 use Prim.Native.Nat.{ℕ, zero, suc, ◌+◌, ◌≤◌, ◌<◌}
 use native.Mathlib.Omega.{arith}
-use native.Mathlib.Nat.{not-suc-le-zero}
 use lib.ListN.{length, get_or, take}
 use lib.Seq.{length-take-le}
 use lib.Ieee.{Float}
+use Rattle.std.proofs.lemmas.Bool.Decides.{nat_tests}
 use Rattle.rules.specs.Simplex.{blank, unpack, insert, cost_of}
 use Rattle.rules.specs.Stop.{total}
 use Rattle.rules.specs.Accept.{Piece, counted, add_open, probed_once, best_after, noted, taken}
@@ -20,7 +20,6 @@ use Rattle.rules.specs.declared.Counts.{Counts}
 use Rattle.rules.specs.declared.Setup.{Setup}
 use Rattle.rules.specs.declared.Search.{Search}
 use Rattle.rules.specs.declared.Phase.{Phase}
-use Rattle.rules.proofs.Laws.Tests.{tests, cond_elim}
 use Rattle.rules.proofs.Laws.Lists.{mem_take}
 use Rattle.rules.proofs.Laws.Order.{length_insert, ordered_insert, mem_insert, total_insert, total_take, ordered_take}
 use Rattle.rules.proofs.Laws.Places.{unpack_take}
@@ -39,7 +38,7 @@ stands_more rs vs v t builds standing h = record { are = h.are; none = h.none; a
 
 -- the first of the first n + 1 vertices is the first of all
 pub take_leads : (n : ℕ) (vs : List Vertex) (x : Vertex) → 1 ≤ n → Leads vs x → Leads (take n vs) x
-take_leads zero vs x l h = absurd (not-suc-le-zero l)
+take_leads zero vs x l h = absurd (omega arith)
 take_leads (suc n) [] x l h = h
 take_leads (suc n) (v ∷ vs) x l h = h
 
@@ -84,7 +83,7 @@ module _ (rs : List Vertex) (v : Vertex) (s : Search) (inv : Inv rs s) (after : 
   abbrev pub ongoing : Phase → Simplex → List Float → Counts → Search
   ongoing p gathered center c = record { setup = s.setup; phase = p; standing = s.standing; gathered = gathered; center = center; readings = s.readings + 1; best = best_after s.readings v s.best; counts = c }
 
-  goes : (probe : ℕ) (p : Phase) (gs : List Vertex) (gathered : Simplex) (center : List Float) (c : Counts) → Counted [] probe s.counts c → c.builds ≡ s.counts.builds
+  pub goes : (probe : ℕ) (p : Phase) (gs : List Vertex) (gathered : Simplex) (center : List Float) (c : Counts) → Counted [] probe s.counts c → c.builds ≡ s.counts.builds
       → Gathers (rs ▹ v) gs gathered → Equation s.setup.n (s.readings + 1) c
       → c.unfinished ≡ cond (is_open [] probe s.readings) (s.counts.unfinished + 1) 0
       → At p s.setup s.standing inv.vs gs (s.readings + 1) c (best_after s.readings v s.best) → (probe ≡ 0 → NoRound p)
@@ -116,19 +115,7 @@ module _ (rs : List Vertex) (v : Vertex) (s : Search) (inv : Inv rs s) (after : 
       → TakesReading (rs ▹ v) [] 0 s (ongoing p gathered s.center (add_open 1 s.counts))
   unfolding count_of
   goes_on p gs gathered gathers some here no_round =
-      let unfinished = s.counts.unfinished in
-      let more : unfinished + 1 ≡ cond (is_open [] 0 s.readings) (unfinished + 1) 0 = cond_elim (λ (k : ℕ). unfinished + 1 ≡ k) (is_open [] 0 s.readings) (λ e. refl) (λ e. absurd (omega (arith, tests))) in
-      goes 0 p gs gathered s.center (add_open 1 s.counts) (omega arith) refl gathers (omega (arith, inv.equation)) more here (λ q. no_round)
-
-  -- the first reading of all is not
-  pub begins : (p : Phase) (gs : List Vertex) (gathered : Simplex) → Gathers (rs ▹ v) gs gathered → s.readings ≡ 0 → s.counts.unfinished ≡ 0
-      → At p s.setup s.standing inv.vs gs (s.readings + 1) (add_open 0 s.counts) (best_after s.readings v s.best) → NoRound p
-      → TakesReading (rs ▹ v) [] 0 s (ongoing p gathered s.center (add_open 0 s.counts))
-  unfolding count_of
-  begins p gs gathered gathers none closed here no_round =
-      let unfinished = s.counts.unfinished in
-      let still : unfinished + 0 ≡ cond (is_open [] 0 s.readings) (unfinished + 1) 0 = cond_elim (λ (k : ℕ). unfinished + 0 ≡ k) (is_open [] 0 s.readings) (λ e. absurd (omega (arith, tests))) (λ e. omega arith) in
-      goes 0 p gs gathered s.center (add_open 0 s.counts) (omega arith) refl gathers (omega (arith, inv.equation)) still here (λ q. no_round)
+      goes 0 p gs gathered s.center (add_open 1 s.counts) (omega arith) refl gathers (omega (arith, inv.equation)) (grind (arith, nat_tests)) here (λ q. no_round)
 
   -- a probe is never open
   pub probes_on : (p : Phase) (gs : List Vertex) (gathered : Simplex) (center : List Float) → Gathers (rs ▹ v) gs gathered → 1 ≤ s.readings → s.counts.unfinished ≡ 0

@@ -2,13 +2,14 @@
 use mathlib.Core.Path.{◌≡◌, refl, sym, ap, ◌∙◌, subst}
 use mathlib.Core.List.Memᴰ
 use mathlib.Core.List.{List, [], ◌∷◌, ◌++◌, map, map-append, Memᴰ}
-use mathlib.Core.Logic.{◌⊎◌, ⊎_elim}
-use native.Mathlib.Numerals.{add-one}
+use mathlib.Core.Logic.{⊎_elim}
 use Prim.Native.Nat.{ℕ, zero, suc, ◌+◌, ◌≤◌, ◌<◌}
 use native.Mathlib.Omega.{arith}
-use native.Mathlib.Nat.{not-suc-le-zero, le_of_suc-le-suc, eq-or-lt_of_le}
-use lib.ListN.{length, get_or, length-append, length-map, get_or-append, get_or-map}
+use lib.ListN.{length, get_or, length-map, get_or-append, get_or-map}
 use lib.Seq.{get_or-append_seam}
+use Rattle.std.proofs.lemmas.Bool.Decides.{nat_tests}
+use Rattle.std.proofs.lemmas.Bool.{cases_lt}
+use Rattle.std.proofs.lemmas.List.{places, nil_from_length}
 use Rattle.rules.specs.Numbers.{max_cost}
 use Rattle.rules.specs.Simplex.{blank, cost_of, insert}
 use Rattle.rules.specs.Accept.{replaces, best_after}
@@ -16,9 +17,9 @@ use Rattle.rules.specs.History.{EarliestLeast}
 use Rattle.rules.specs.declared.Vertex.{Vertex}
 use Rattle.rules.specs.declared.Setup.{Setup}
 use Rattle.rules.specs.declared.Search.{Search}
-use Rattle.rules.proofs.Laws.Tests.{tests, better_elim}
+use Rattle.rules.proofs.Laws.Tests.{better_elim}
 use Rattle.rules.proofs.Laws.Lists.{mem_get_or}
-use Rattle.rules.proofs.Laws.Order.{le_or_lt, first_lower, first_stays}
+use Rattle.rules.proofs.Laws.Order.{first_lower, first_stays}
 use Rattle.rules.proofs.Steps.Invariant.{Known, Leads, ReadingShape, Best, Noted}
 
 infixl 40 ◌▹◌
@@ -40,66 +41,44 @@ known_new rs v = Memᴰ.append_right rs (Memᴰ.head refl)
 
 -- a reading that is lower than the best before it is the best
 pub best_falls : (k : ℕ) (v b : Vertex) → 1 ≤ k → v.cost < b.cost → best_after k v b ≡ v
-best_falls zero v b l h = absurd (not-suc-le-zero l)
-best_falls (suc k) v b l h = better_elim (λ (x : Vertex). x ≡ v) (replaces v b) (λ e. refl) (λ e. absurd (omega (arith, tests)))
+best_falls zero v b l h = absurd (omega arith)
+best_falls (suc k) v b l h = grind (arith, nat_tests)
 
 -- a reading that is not lower than the best before it leaves the best
 pub best_stays : (k : ℕ) (v b : Vertex) → 1 ≤ k → b.cost ≤ v.cost → best_after k v b ≡ b
-best_stays zero v b l h = absurd (not-suc-le-zero l)
-best_stays (suc k) v b l h = better_elim (λ (x : Vertex). x ≡ b) (replaces v b) (λ e. absurd (omega (arith, tests))) (λ e. refl)
+best_stays zero v b l h = absurd (omega arith)
+best_stays (suc k) v b l h = grind (arith, nat_tests)
 
 -- where the best is first among vertices, the best after a reading is first with that reading among them
 pub leads_on : (vs : List Vertex) (v b : Vertex) (k : ℕ) → 1 ≤ k → Leads vs b → Leads (insert v vs) (best_after k v b)
 leads_on vs v b k l h =
     ⊎_elim
-    (λ g. rw (best_stays k v b l g) (first_stays v b vs h g))
     (λ g. rw (best_falls k v b l g) (first_lower v b vs h g))
-    (le_or_lt b.cost v.cost)
+    (λ g. rw (best_stays k v b l g) (first_stays v b vs h g))
+    (cases_lt v.cost b.cost)
 
 -- ---- one cost more
 
-pub below_snoc : (h : List ℕ) (c j : ℕ) → j < length (h ++ c ∷ []) → (j ≡ length h) ⊎ (j < length h)
-below_snoc h c j l = eq-or-lt_of_le (le_of_suc-le-suc (rw (length-append, add-one) at l))
-
-pub old_cost : (h : List ℕ) (c j : ℕ) → j < length h → get_or (h ++ c ∷ []) j 0 ≡ get_or h j 0
-old_cost h c j l = get_or-append h (c ∷ []) 0 j l
-
-pub new_cost : (h : List ℕ) (c : ℕ) → get_or (h ++ c ∷ []) (length h) 0 ≡ c
-new_cost h c = get_or-append_seam h c [] 0
-
-longer : (h : List ℕ) (c : ℕ) → length h < length (h ++ c ∷ [])
-longer h c = simp length-append (omega arith)
-
 pub earliest_first : (c : ℕ) → EarliestLeast (c ∷ []) 0
-earliest_first c = record { told = omega arith; least = only; earliest = λ j l. absurd (omega arith) }
-  where
-    only : (j : ℕ) → j < 1 → c ≤ get_or (c ∷ []) j 0
-    only zero l = omega arith
-    only (suc j) l = absurd (not-suc-le-zero (le_of_suc-le-suc l))
+earliest_first c = record { told = omega arith; least = λ j l. grind (arith, places); earliest = λ j l. absurd (omega arith) }
 
 -- a cost that is not lower leaves the earliest least where it was
 pub earliest_keeps : (h : List ℕ) (k c : ℕ) → EarliestLeast h k → get_or h k 0 ≤ c → EarliestLeast (h ++ c ∷ []) k
 earliest_keeps h k c e l =
     record {
-      told = omega (arith, e.told, longer h c);
-      least = λ j m. ⊎_elim (last j) (λ n. rw (old_cost h c k e.told, old_cost h c j n) (e.least j n)) (below_snoc h c j m);
-      earliest = λ j m. rw (old_cost h c k e.told, old_cost h c j (omega (arith, e.told))) (e.earliest j m);
+      told = grind (arith, places, e.told);
+      least = λ j m. grind (arith, places, e.told, e.least j);
+      earliest = λ j m. grind (arith, places, e.told, e.earliest j);
     }
-  where
-    last : (j : ℕ) → j ≡ length h → get_or (h ++ c ∷ []) k 0 ≤ get_or (h ++ c ∷ []) j 0
-    last j q = rw (q, new_cost h c, old_cost h c k e.told) l
 
 -- a lower cost is the earliest least itself
 pub earliest_new : (h : List ℕ) (k c : ℕ) → EarliestLeast h k → c < get_or h k 0 → EarliestLeast (h ++ c ∷ []) (length h)
 earliest_new h k c e l =
     record {
-      told = longer h c;
-      least = λ j m. ⊎_elim (λ q. rw q (omega arith)) (λ n. let r = lower j n in omega arith) (below_snoc h c j m);
-      earliest = lower;
+      told = grind (arith, places);
+      least = λ j m. grind (arith, places, e.least j);
+      earliest = λ j m. grind (arith, places, e.least j);
     }
-  where
-    lower : (j : ℕ) → j < length h → get_or (h ++ c ∷ []) (length h) 0 < get_or (h ++ c ∷ []) j 0
-    lower j n = rw (new_cost h c, old_cost h c j n) (omega (arith, e.least j n))
 
 -- ---- one reading more
 
@@ -107,8 +86,7 @@ cost_at : (rs : List Vertex) (k : ℕ) (b : Vertex) → get_or rs k blank ≡ b 
 cost_at rs k b e = get_or-map cost_of rs k blank ∙ ap cost_of e
 
 best_first : (rs : List Vertex) (v : Vertex) → length rs ≡ 0 → Best (rs ▹ v) v
-best_first [] v e = (0, earliest_first v.cost, refl)
-best_first (r ∷ rs) v e = let z : suc (length rs) ≡ 0 = e in absurd (omega arith)
+best_first rs v e = rw (nil_from_length rs e) (0, earliest_first v.cost, refl)
 
 best_new : (rs : List Vertex) (v b : Vertex) → Best rs b → v.cost < b.cost → Best (rs ▹ v) v
 best_new rs v b h l =
@@ -131,11 +109,11 @@ best_after_lem : (rs : List Vertex) (v b : Vertex) (k : ℕ) → k ≡ length rs
 best_after_lem rs v b zero e h = best_first rs v (sym e)
 best_after_lem rs v b (suc k) e h =
     let was = h (omega arith) in
-    better_elim (Best (rs ▹ v)) (replaces v b) (λ t. best_new rs v b was (omega (arith, tests))) (λ t. best_old rs v b was (omega (arith, tests)))
+    better_elim (Best (rs ▹ v)) (replaces v b) (λ t. best_new rs v b was (grind (arith, nat_tests))) (λ t. best_old rs v b was (grind (arith, nat_tests)))
 
 low_after : (k : ℕ) (v b : Vertex) → v.cost ≤ max_cost → b.cost ≤ max_cost → (best_after k v b).cost ≤ max_cost
 low_after zero v b h g = h
-low_after (suc k) v b h g = better_elim (λ (x : Vertex). x.cost ≤ max_cost) (replaces v b) (λ e. h) (λ e. g)
+low_after (suc k) v b h g = grind (arith, nat_tests)
 
 -- the best is one of the readings
 pub best_mem : (rs : List Vertex) (b : Vertex) → Best rs b → Memᴰ b rs
@@ -146,7 +124,7 @@ pub note : (rs : List Vertex) (t : Setup) (k : ℕ) (b v : Vertex) → Noted rs 
 note rs t k b v h f below =
     record {
       sane = h.sane;
-      told = simp length-append (omega (arith, h.told));
+      told = grind (arith, places, h.told);
       below = omega arith;
       shapes = λ w m. ⊎_elim (h.shapes w) (λ n. subst (ReadingShape t.n) (sym (Memᴰ.eq_of_singleton n)) f) (Memᴰ.append_cases rs m);
       least = λ l. best_after_lem rs v b k h.told h.least;

@@ -4,11 +4,12 @@ use mathlib.Core.List.Memᴰ
 use mathlib.Core.List.{List, [], ◌∷◌}
 use Prim.Native.Nat.{ℕ, ◌+◌, ◌*◌, ◌≤◌, ◌<◌}
 use native.Mathlib.Omega.{arith}
+use Rattle.std.proofs.lemmas.Bool.Decides.{nat_tests}
 use Rattle.rules.specs.Simplex.{Ordered}
 use Rattle.rules.specs.Accept.{probed_once, best_after, noted, with_counts, restarted, is_full, probe_missed, ends_round, probed_on}
 use Rattle.rules.specs.declared.Vertex.{Vertex}
 use Rattle.rules.specs.declared.Search.{Search}
-use Rattle.rules.proofs.Laws.Tests.{tests, pick_elim}
+use Rattle.rules.proofs.Laws.Tests.{pick_elim}
 use Rattle.rules.proofs.Steps.Invariant.{Known, Leads, Idle, Inv}
 use Rattle.rules.proofs.Steps.Noting.{◌▹◌, NotedWith, known_new, best_falls, best_stays}
 use Rattle.rules.proofs.Steps.Stepping.{TakesReading}
@@ -37,11 +38,11 @@ module _ (rs : List Vertex) (v : Vertex) (s : Search) (inv : Inv rs s) (after : 
       let more = gathers_more rs v s inv after in
       pick_elim (TakesReading (rs ▹ v) [] 1 s) (is_full p s)
       (λ e. probes_on rs v s inv after _ inv.gs _ _ more idle.some idle.unfinished tt)
-      (λ e. probes_on rs v s inv after _ inv.gs _ _ more idle.some idle.unfinished (still, first, omega (arith, tests)))
+      (λ e. probes_on rs v s inv after _ inv.gs _ _ more idle.some idle.unfinished (still, first, grind (arith, nat_tests)))
 
   pub probe_step_lem : TakesReading (rs ▹ v) [] 1 s (probed_on p s.best.cost v (noted v s))
   unfolding probed_on
   probe_step_lem =
       pick_elim (TakesReading (rs ▹ v) [] 1 s) (ends_round v.cost s.best.cost)
-      (λ e. restarts (omega (arith, tests)))
-      (λ e. misses (omega (arith, tests)))
+      (λ e. restarts (grind (arith, nat_tests)))
+      (λ e. misses (grind (arith, nat_tests)))

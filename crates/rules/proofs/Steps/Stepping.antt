@@ -1,12 +1,11 @@
 -- What one accepted reading does, in a form that every phase's proof fills in. Assumes nothing.
-use mathlib.Core.Path.{◌≡◌, refl, sym, ◌∙◌}
+use mathlib.Core.Path.{◌≡◌, refl, sym}
 use mathlib.Core.Bool.{Bool, true, false, cond}
 use mathlib.Core.List.Memᴰ
 use mathlib.Core.List.{List, [], ◌∷◌, map}
 use Prim.Native.Nat.{ℕ, zero, suc, ◌+◌, ◌≤◌}
 use native.Mathlib.Omega.{arith}
 use lib.ListN.{length}
-use lib.Seq.{take_all}
 use lib.Dec.{eqb}
 use lib.Ieee.{Float}
 use borrow.Author.Tests.{ne_eqb}
@@ -21,9 +20,9 @@ use Rattle.rules.specs.declared.Counts.{Counts}
 use Rattle.rules.specs.declared.Setup.{Setup}
 use Rattle.rules.specs.declared.Search.{Search}
 use Rattle.rules.specs.declared.Phase.{Phase}
-use Rattle.rules.specs.declared.Phase.TheVariants.{Building, Reflecting, Expanding, Contracting, Shrinking, Probing, Ended}
-use Rattle.rules.specs.declared.Cause.TheVariants.{Settled, Budget}
-use Rattle.rules.proofs.Laws.Places.{Whole, unpack_take}
+use Rattle.rules.specs.declared.Phase.TheVariants.{Probing, Ended}
+use Rattle.rules.specs.declared.Cause.TheVariants.{Settled}
+use Rattle.rules.proofs.Laws.Places.{Whole, unpack_pack}
 use Rattle.rules.proofs.Steps.Invariant.{Known, Leads, Noted, Stands, Gathers, Equation, Idle, At, Inv}
 use Rattle.rules.proofs.Steps.Noting.{◌▹◌, NotedWith}
 
@@ -77,15 +76,9 @@ others_in ps = count_of reflection ps + count_of expansion ps + count_of contrac
 
 -- a phase that does not go on from a probe: no round is under way, and none has settled the search
 abbrev pub NoRound : Phase → Type 0
-NoRound (Building i) = Unit {0}
-NoRound Reflecting = Unit {0}
-NoRound (Expanding f) = Unit {0}
-NoRound (Contracting side f) = Unit {0}
-NoRound (Shrinking j) = Unit {0}
-NoRound (Probing zero) = Unit {0}
 NoRound (Probing (suc p)) = ⊥
 NoRound (Ended Settled) = ⊥
-NoRound (Ended Budget) = Unit {0}
+NoRound p = Unit {0}
 
 -- s takes a reading and becomes u: rs are its readings then, ps the pieces finished, probe tells whether it was a probe
 pub record TakesReading (rs : List Vertex) (ps : List Piece) (probe : ℕ) (s u : Search) : Type 0 where
@@ -111,11 +104,10 @@ pub standing_are : (rs vs : List Vertex) (t : Setup) (k : ℕ) (b : Vertex) (bui
 standing_are rs vs t k b zero standing h g = sym (g.none refl)
 standing_are rs vs t k b (suc m) standing h g =
     let n : length vs ≡ t.n + 1 = g.all (omega arith) in
-    let e : eqb (suc m) 0 ≡ false = ne_eqb (suc m) 0 (λ q. omega arith) in
-    rw (e, g.are) (unpack_take (t.n + 1) vs (whole h g.known) (omega arith) ∙ take_all (t.n + 1) vs (omega arith))
+    rw (ne_eqb (suc m) 0 (λ q. omega arith), g.are, ← n) (unpack_pack vs (whole h g.known))
 
 pub gathered_are : (rs gs : List Vertex) (t : Setup) (k : ℕ) (b : Vertex) (gathered : Simplex) (i : ℕ) → Noted rs t k b → Gathers rs gs gathered → length gs ≡ i → unpack i gathered ≡ gs
-gathered_are rs gs t k b gathered i h g e = rw g.are (unpack_take i gs (whole h g.known) (omega arith) ∙ take_all i gs (omega arith))
+gathered_are rs gs t k b gathered i h g e = rw (g.are, ← e) (unpack_pack gs (whole h g.known))
 
 -- ---- the end of a build or an iteration
 

@@ -5,10 +5,11 @@ use mathlib.Core.Logic.{⊎_elim}
 use Prim.Native.Nat.{ℕ, zero, suc, ◌-◌, ◌*◌, ◌^◌, ◌<◌}
 use native.Mathlib.Nat.{pow-le-pow_right}
 use native.Mathlib.Omega.{arith}
-use lib.ListN.{length, length-append}
+use lib.ListN.{length, length-append, length-take}
+use Rattle.std.proofs.lemmas.List.{get_or-take}
 use lib.Ieee.{Float}
 use Rattle.io.specs.Digits.{IsDigitCount}
-use Rattle.rules.proofs.Laws.Order.{le_or_lt}
+use Rattle.std.proofs.lemmas.Bool.{cases_lt}
 use Rattle.tune_text.specs.Lines.{coordinates}
 
 -- a coordinate takes seventeen bytes
@@ -21,6 +22,9 @@ coordinates_length (suc k) x = simp (length-append, coordinates_length k x) (ome
 pub sixteen : (n k : ℕ) → n < 2 ^ 64 → IsDigitCount 16 16 n k → k ≡ 16
 sixteen n k h f =
     ⊎_elim
-    (λ l. omega (arith, f.0))
     (λ l. absurd (omega (arith, f.2 l, pow-le-pow_right {n = 16} (omega arith) {i = 16} {j = k - 1} (omega arith))))
-    (le_or_lt k 16)
+    (λ l. omega (arith, f.0))
+    (cases_lt 16 k)
+
+-- the laws on the room that coordinates take
+pub ruleset lengths = (coordinates_length, length-append, length-take)

@@ -1,5 +1,6 @@
 -- Laws on the cut of a text at a byte. Assumes nothing.
-use mathlib.Core.Path.{◌≡◌}
+use mathlib.Core.Path.{◌≡◌, refl}
+use mathlib.Core.Bool.{Bool, true, false, cond, not}
 use mathlib.Core.List.{List, [], ◌∷◌}
 use Prim.Native.Nat.{ℕ, suc, ◌≤◌, ◌<◌}
 use native.Mathlib.Numerals.{add-one}
@@ -10,6 +11,21 @@ use Rattle.std.proofs.lemmas.List.Splits.{slice_split_first, slice_split_none, l
 use Rattle.std.proofs.lemmas.List.Sums.{fails_before_first}
 use Rattle.tune_text.specs.Scan.{index_of}
 use Rattle.tune_text.specs.Fields.{cut}
+
+-- a text with no byte
+pub index_of-nil : (b : ℕ) → index_of b [] ≡ 0
+unfolding index_of
+index_of-nil b = refl
+
+-- a choice by a test turned round
+turned : (t : Bool) (m k n : ℕ) → m ≡ k → cond (not t) m n ≡ cond t n k
+turned true m k n e = refl
+turned false m k n e = e
+
+-- the first byte is b, or b stands one further than in what follows it
+pub index_of-cons : (b x : ℕ) (xs : List ℕ) → index_of b (x ∷ xs) ≡ cond (eqb x b) 0 (suc (index_of b xs))
+unfolding index_of
+index_of-cons b x xs = turned (eqb x b) _ _ 0 (omega arith)
 
 module _ (b : ℕ) (xs : List ℕ) where
   -- a text with b in it: the first piece is what stands before the first b, and the others are those of what stands after it

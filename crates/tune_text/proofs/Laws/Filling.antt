@@ -36,3 +36,6 @@ module _ (bytes : List ℕ) (s : State) (buffer : List ℕ) where
       within = l;
       begun = inr (⊎_elim (λ w. rw w.0 (falls bytes s (rw (← w.0) d))) (λ w. omega (arith, falls bytes t d)) h.begun);
     }
+
+-- the laws that filling a buffer takes
+pub ruleset runs = (run_none, falls)

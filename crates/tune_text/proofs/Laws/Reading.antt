@@ -20,7 +20,7 @@ use Rattle.rules.specs.declared.Rule.{Rule}
 use Rattle.rules.specs.declared.Axis.{Axis}
 use Rattle.rules.specs.declared.Coefficients.{Coefficients}
 use Rattle.rules.specs.declared.Search.{Search}
-use Rattle.rules.proofs.Laws.Tests.{cond_elim}
+use Rattle.std.proofs.lemmas.Bool.{cond_both}
 use Rattle.tune_text.specs.Reading.{axis_lines, axes_read, with_axis}
 use Rattle.tune_text.specs.declared.Request.{Request}
 
@@ -66,7 +66,7 @@ told_unchanged s number cost r e = go (tell_verdict s number cost) e
 -- no more than eight axis lines are read
 lines_bound : (n : ℕ) → axis_lines n ≤ 8
 lines_bound n =
-    cond_elim (λ (m : ℕ). m ≤ 8) (leb 1 n && leb n 8) (λ e. leb-true n 8 ((and-eq-true_iff (leb 1 n) (leb n 8)).0 e).1) (λ e. omega arith)
+    cond_both (leb 1 n && leb n 8) _ _ (λ (m : ℕ). m ≤ 8) (λ e. leb-true n 8 ((and-eq-true_iff (leb 1 n) (leb n 8)).0 e).1) (λ e. omega arith)
 
 -- after eight axis lines one more changes nothing: the opening follows, and the request has no record for it
 pub past_eight : (k : ℕ) (a : Axis) (q : Request) (s : Search) → 8 ≤ k → length q.axes ≡ 8 → axes_read (suc k) (with_axis k a q) s ≡ axes_read k q s
@@ -74,3 +74,6 @@ unfolding axes_read
 past_eight k a q s h l =
     let few : axis_lines q.n ≤ 8 = lines_bound q.n in
     rw (set_out q.axes k a (omega arith), le-ltb (suc k) (axis_lines q.n) (omega arith), le-ltb k (axis_lines q.n) (omega arith))
+
+-- the laws on what stands before the first line
+pub ruleset nothings = (default_request, no_axis_closed)

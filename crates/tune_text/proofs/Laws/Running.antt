@@ -9,7 +9,7 @@ use lib.ListN.{length, take, drop, length-drop}
 use lib.Dec.{leb, ltb}
 use borrow.Author.Tests.{ltb-true, ltb-false, leb-true, leb-false}
 use Rattle.tune_text.specs.Scan.{index_of}
-use Rattle.rules.proofs.Laws.Tests.{cond_elim}
+use Rattle.std.proofs.lemmas.Bool.{cond_both}
 use Rattle.tune_text.specs.Fields.{newline}
 use Rattle.tune_text.specs.Lines.{bad_line}
 use Rattle.tune_text.specs.Reading.{line_read, last_line, is_over, is_done}
@@ -40,10 +40,10 @@ pub step_cases : (bytes : List ℕ) (s : State) (P : Stepped → Type 0)
     → P (stepping bytes s)
 unfolding stepping line_step
 step_cases bytes s P done long over line last =
-    cond_elim P (is_done s.progress.stage) done
-    (λ d. cond_elim P (leb (length bytes) longest)
-    (λ e. cond_elim P (is_over s.progress.stage s.progress.search) (over d (leb-true _ _ e))
-    (λ o. cond_elim P (ltb (line_end bytes s) (length (left bytes s)))
+    cond_both (is_done s.progress.stage) _ _ P done
+    (λ d. cond_both (leb (length bytes) longest) _ _ P
+    (λ e. cond_both (is_over s.progress.stage s.progress.search) _ _ P (over d (leb-true _ _ e))
+    (λ o. cond_both (ltb (line_end bytes s) (length (left bytes s))) _ _ P
     (λ l. line d (leb-true _ _ e) o (ltb-true _ _ l)) (λ l. last d (leb-true _ _ e) o (ltb-false _ _ l))))
     (λ e. long d (leb-false _ _ e)))
 
@@ -64,7 +64,7 @@ some_left bytes s d = rw d
 
 -- `steps_left` is at most one more than the bytes that are left
 pub few_left : (bytes : List ℕ) (s : State) → steps_left bytes s ≤ suc (length bytes - s.position)
-few_left bytes s = cond_elim (λ (n : ℕ). n ≤ suc (length bytes - s.position)) (is_done s.progress.stage) (λ e. omega arith) (λ e. omega arith)
+few_left bytes s = cond_both (is_done s.progress.stage) _ _ (λ (n : ℕ). n ≤ suc (length bytes - s.position)) (λ e. omega arith) (λ e. omega arith)
 
 -- where no step is left, all is done
 pub left_done : (bytes : List ℕ) (s : State) → steps_left bytes s ≤ 0 → is_done s.progress.stage ≡ true

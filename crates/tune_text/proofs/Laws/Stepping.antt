@@ -9,6 +9,7 @@ use mathlib.Core.Bool.{true, false}
 use borrow.Author.Tests.{le-leb, lt-leb}
 use Rattle.std.specs.Prelude.{Some, None}
 use Rattle.std.specs.List.{position, position_or_len}
+use Rattle.std.proofs.lemmas.List.{take_rest}
 use Rattle.std.proofs.lemmas.Option.{cond_some}
 use Rattle.std.proofs.lemmas.Bool.Decides.{nat_tests}
 use Rattle.tune_text.specs.Scan.{index_of}
@@ -57,3 +58,6 @@ module _ (s : State) (bytes : List ℕ) where
 
 -- the four cases of a step
 pub ruleset steps = (step_done, step_too_long, step_over, step_on)
+
+-- the two cases of a step that reads a line
+pub ruleset line_steps = (take_rest, step_on_line, step_without_newline)

@@ -3,5 +3,5 @@ use Rattle.std.proofs.Common.{◌≡◌}
 use Rattle.rules.specs.Stop.{norm}
 use Rattle.engine.proofs.stop.norm.Given as goal
 
-abbrev pub invariant-loop-x : goal.invariant-loop-x
-invariant-loop-x l = l.sum ≡ norm l.x l.x-index
+abbrev pub invariant-loop-u : goal.invariant-loop-u
+invariant-loop-u l = l.sum ≡ norm l.x l.u-index

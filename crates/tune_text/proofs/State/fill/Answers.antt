@@ -2,15 +2,8 @@
 use Rattle.std.proofs.Common.{◌≡◌, ◌+◌, ◌-◌, ◌∙◌, arith, rules, length}
 use Rattle.std.proofs.lemmas.Slice.{take-put_mid}
 use Rattle.tune_text.specs.Steps.{stepping}
-use Rattle.tune_text.proofs.Laws.Running.{falls}
-use Rattle.tune_text.proofs.Laws.Filling.{run_none, run_more}
+use Rattle.tune_text.proofs.Laws.Filling.{run_more}
 use Rattle.tune_text.proofs.State.fill.Goals as goal
-
-pub loop-self-init : goal.loop-self-init
-loop-self-init c = run_none _ _ _
-
-pub loop-self-smaller : goal.loop-self-smaller
-loop-self-smaller c = rw c.step-line.ensures.state (falls c.args.input.now c.loop-self.self (cc))
 
 pub loop-self-preserved : goal.loop-self-preserved
 loop-self-preserved c =

@@ -1,7 +1,7 @@
 -- `tune_text::fields::read_numbers` meets its contract: too few fields, one of another form, or too many. Assumes nothing.
-use Rattle.std.proofs.Common.{rules, tests, arith, ◌≡◌, ◌∙◌, ap, sym, [], take}
+use Rattle.std.proofs.Common.{rules, tests, arith, ◌∙◌, ap, sym, take}
 use Rattle.std.proofs.lemmas.List.{length-replicate}
-use Rattle.tune_text.proofs.Laws.Splitting.{left, outcome, first_left, some_left, outcome_first, outcome_other, outcome_few, outcome_more, outcome_last}
+use Rattle.tune_text.proofs.Laws.Splitting.{left, outcome, first_left, some_left, outcome_first, outcome_other, outcome_more, outcome_last}
 use Rattle.tune_text.proofs.fields.read_numbers.Goals as goal
 
 pub loop-number-init : goal.loop-number-init
@@ -9,14 +9,6 @@ loop-number-init g c = record {
   sized = length-replicate _ _;
   whole = rw (c.split-fields.ensures.done, c.split-fields.ensures.rest) (outcome_first c.args.form g.row.K c.args.line.now);
 }
-
-pub returns-in_err-next : goal.returns-in_err-next
-returns-in_err-next g c =
-    let at = c.loop-number in
-    let none : left at.fields ≡ [] = rw c.in_err-next.ensures.steps.0 in
-    let few = outcome_few c.args.form g.row.K at.number-items at.number-index at.invariant.sized (omega arith) in
-    let whole = at.invariant.whole ∙ ap (outcome c.args.form g.row.K (take at.number-index at.number-items)) none ∙ few in
-    rw whole c.from_residual.ensures
 
 pub returns-in_err-number : goal.returns-in_err-number
 returns-in_err-number g c =
@@ -38,9 +30,6 @@ loop-number-preserved g c =
       sized = search rules;
       whole = at.invariant.whole ∙ ap (outcome c.args.form g.row.K (take at.number-index at.number-items)) some ∙ more;
     }
-
-pub loop-number-smaller : goal.loop-number-smaller
-loop-number-smaller g c = omega arith
 
 pub returns : goal.returns
 returns g c =

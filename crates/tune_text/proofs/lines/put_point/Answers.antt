@@ -1,12 +1,8 @@
 -- `tune_text::lines::put_point` meets its contract. A coordinate takes seventeen bytes. Assumes nothing.
-use Rattle.std.proofs.Common.{◌<◌, arith, append_assoc, add-one, length-append, length-take}
+use Rattle.std.proofs.Common.{◌<◌, arith, append_assoc, add-one, length-take}
 use Rattle.std.proofs.lemmas.List.{get_or-take}
 use Rattle.tune_text.specs.Lines.{coordinates}
-use Rattle.tune_text.proofs.Laws.Coordinates.{coordinates_length}
 use Rattle.tune_text.proofs.lines.put_point.Goals as goal
-
-pub put_coordinate-requires : goal.put_coordinate-requires
-put_coordinate-requires c = rw c.loop-x.invariant (simp (length-append, coordinates_length) (omega (arith, rw length-take at c.loop-x-test.true)))
 
 pub loop-x-preserved : goal.loop-x-preserved
 unfolding coordinates
