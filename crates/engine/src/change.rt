@@ -1,4 +1,5 @@
-// Changes of a search after a reading: the counts and the best of it, and its phase where a piece goes on or ends.
+// Changes of a search after a reading: the counts and the best of it, and its phase where a piece goes on or ends. Why `Ready` stands in a
+// contract is said in transition.rt.
 ghost use Rattle.std.specs.Prelude.{◌≡◌, ◌<◌};
 ghost use Rattle.rules.specs.Numbers.{max_budget};
 ghost use Rattle.rules.specs.Accept.{noted, counted, waiting};

@@ -1,4 +1,5 @@
-// What an accepted reading decides by the table of "Iteration", and which vertex it brings.
+// What an accepted reading decides by the table of "Iteration", and which vertex it brings. Why `Ready` stands in each contract is said in
+// transition.rt.
 ghost use Rattle.std.specs.Prelude.{◌≡◌};
 ghost use Rattle.rules.specs.Accept.{wins};
 ghost use Rattle.engine.specs.Ready.{Ready};

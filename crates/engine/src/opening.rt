@@ -52,7 +52,8 @@ fn axis_verdict(i: usize, x: Axis) -> Result<(), Refusal>
     Ok(())
 }
 
-// Checks 2, 3 and 4 on the first n axes, lowest axis first. By the index, which the refusal tells.
+// Checks 2, 3 and 4 on the first n axes, lowest axis first. By the index, which the refusal tells; n ≤ 8 is what `open_verdict`
+// has just tested, and no type holds it of an n that may be any.
 #[tactic(auto, using(crate::proofs::Laws::Checking::exit, crate::proofs::Laws::Opening::axes_first), unfolding(rules::specs::Opening::axes_checks))]
 fn axes_verdict(n: usize, axes: &[Axis; 8]) -> Result<(), Refusal>
     requires { n ≤ 8 }

@@ -8,7 +8,8 @@ ghost use Rattle.engine.specs.Ready.{Askable};
 use super::float::{clamp, moved};
 use rules::{Axis, Phase, Search, Side};
 
-// c on axis a: the sum of places 1 to n in place order, divided by n. The run of 72 numbers with n beside it is document 01's.
+// c on axis a: the sum of places 1 to n in place order, divided by n. The run of 72 numbers with n beside it is document 01's,
+// and its bounds are those of a search that may be made up.
 #[tactic(auto, unfolding(rules::specs::Trial::sum_to, rules::specs::Trial::centroid))]
 fn centroid(points: &[f64; 72], n: usize, a: usize) -> f64
     requires { (1 ≤ n) × (n ≤ 8) × (a < 8) }

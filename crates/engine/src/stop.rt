@@ -1,4 +1,5 @@
-// The three stopping rules, spread, moved and size, tested where a build or an iteration ends.
+// The three stopping rules, spread, moved and size, tested where a build or an iteration ends. Why `Ready` stands in the contracts is said in
+// transition.rt.
 ghost use Rattle.std.specs.Prelude.{◌≡◌, map, ◌*◌, ◌≤◌, length, drop};
 ghost use Rattle.rules.specs.Numbers.{max_cost, max_spread};
 ghost use Rattle.rules.specs.Simplex.{place, unpack, cost_of};
@@ -28,7 +29,6 @@ struct Sums {
 }
 
 // from + (x - y)² over the axes, in axis order. By place: tried over x.iter().zip(y), where the loop's goal stayed open.
-//
 #[tactic(auto, unfolding(rules::specs::Stop::apart))]
 pub(super) fn distance(x: &[f64], y: &[f64], from: f64) -> f64
     requires { length x.now ≡ length y.now }

@@ -117,8 +117,8 @@ pub struct Counts {
     pub unfinished: u64,
 }
 
-// What an opening fixes for good: the axis count n, the axes (zero records past n), coefficients, rule
-// and budget.
+// What an opening fixes for good: the axis count n, the axes (zero records past n), coefficients, rule and budget. n beside eight records is
+// document 01's form.
 #[derive(Clone, Copy)]
 pub struct Setup {
     pub n: usize,

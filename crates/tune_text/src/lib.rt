@@ -30,7 +30,7 @@ pub enum Stage {
     Done,
 }
 
-// What the opening is asked for, with zero records for axis lines not yet read.
+// What the opening is asked for, with zero records for axis lines not yet read: n beside eight records, as document 01 has an opening.
 #[derive(Clone, Copy, Default)]
 pub struct Request {
     pub n: usize,
