@@ -2,7 +2,7 @@
 
 #![tactic(auto)]
 
-ghost use Rattle.std.specs.Prelude.{◌≡◌, ◌^◌, ◌≤◌, ◌<◌, length, IsTrue, SomeIff};
+ghost use Rattle.std.specs.Prelude.{◌≡◌, ◌^◌, ◌≤◌, ◌<◌, IsTrue, SomeIff};
 ghost use Rattle.std.specs.Float.{binary64};
 ghost use Rattle.std.specs.Float.Ieee.{of_bits, to_bits};
 ghost use Rattle.numerals.specs.Digits.{digit_of, all_digits, value};
@@ -34,19 +34,21 @@ pub fn digit(x: u8) -> Option<u64>
     }
 }
 
-// The number that a field's digits in this base are, where every byte is one.
-#[tactic(auto, using(crate::proofs::Digits::digits), unfolding(crate::specs::Digits::all_digits, crate::specs::Digits::value))]
+// The number that a field's digits in this base are; none where the base is above 16, a byte is no digit, or the number does not fit 64 bits.
+#[tactic(auto, using(crate::proofs::Digits::too_large), unfolding(crate::specs::Digits::all_digits, crate::specs::Digits::value))]
 pub fn from_digits(field: &[u8], base: u64) -> Option<u64>
-    requires { (1 < base) × (base ≤ 16) × (base ^ length field.now ≤ 2 ^ 64) }
-    ensures { SomeIff result (IsTrue (all_digits base field.now)) (value base 0 field.now) }
+    ensures { SomeIff result ((base ≤ 16) × IsTrue (all_digits base field.now) × (value base 0 field.now < 2 ^ 64)) (value base 0 field.now) }
 {
-    let mut number = 0;
+    if base > 16 {
+        return None;
+    }
+    let mut number: u64 = 0;
     for x in field {
         let d = digit(*x)?;
         if d >= base {
             return None;
         }
-        number = number * base + d;
+        number = number.checked_mul(base)?.checked_add(d)?;
     }
     Some(number)
 }

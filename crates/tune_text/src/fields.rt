@@ -28,7 +28,7 @@ const HEXADECIMAL: Form = Form {
 };
 
 // The number that a field of this form is.
-#[tactic(auto, using(crate::proofs::Laws::Splitting::powers))]
+#[tactic(auto, using(numerals::proofs::Digits::value_fits))]
 fn read_number(field: &[u8], form: Form) -> Option<u64>
     requires { (1 < form.base) × (form.base ≤ 16) × (form.base ^ form.most ≤ 2 ^ 64) }
     ensures { result ≡ number_read form field.now }

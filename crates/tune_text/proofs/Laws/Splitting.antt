@@ -3,7 +3,7 @@ use mathlib.Core.Path.{◌≡◌, refl, sym, ap, subst, ◌∙◌}
 use mathlib.Core.Bool.{Bool, true, false, not, cond, ◌&&◌, and-false}
 use mathlib.Core.List.{List, [], ◌∷◌, ◌++◌, map, append-nil}
 use Prim.Native.Nat.{ℕ, suc, ◌+◌, ◌≤◌, ◌<◌}
-use native.Mathlib.Nat.{zero-add, pow-le-pow_right}
+use native.Mathlib.Nat.{zero-add}
 use native.Mathlib.Omega.{arith}
 use lib.Dec.{eqb}
 use lib.ListN.{length, take, get_or, set, length-append}
@@ -115,6 +115,3 @@ module _ (f : Form) (k : ℕ) where
       rw (take_all i vs m) (outcome_count vs ps (λ q. omega arith))
   outcome_last vs i None false ps l h e t = cc
   outcome_last vs i (Some x) true ps l h e t = cc
-
--- the law on powers that reading a number takes, by a name that an attribute can cite
-pub ruleset powers = pow-le-pow_right
