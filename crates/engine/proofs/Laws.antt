@@ -3,8 +3,6 @@ pub mod Filling
 pub mod Checking
 pub mod Placing
 pub mod Stopping
-pub mod Ending
-pub mod Deciding
+pub mod Accepting
 pub mod Sounding
 pub mod Opening
-pub mod Steps

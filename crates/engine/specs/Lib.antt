@@ -1,5 +1,3 @@
--- Definitions that private contracts of the engine cite: places as code reads them, what is in range, and the rules by their parts.
+-- Definitions that private contracts of the engine cite: places as code reads and writes them, and what is in range.
 pub mod Places
 pub mod Ready
-pub mod Finish
-pub mod Decide

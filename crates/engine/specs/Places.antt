@@ -1,7 +1,6 @@
 -- Places of a simplex as the code reads and writes them.
-use Rattle.std.specs.Prelude.{◌≡◌, List, ℕ, ◌*◌, ◌≤◌, get_or, set}
+use Rattle.std.specs.Prelude.{◌≡◌, List, ℕ, ◌*◌, set}
 use Rattle.std.proofs.Math.Seq.{paste}
-use Rattle.rules.specs.Numbers.{max_cost}
 use Rattle.rules.specs.Simplex.{pack, unpack}
 use Rattle.rules.specs.declared.Simplex.{Simplex}
 use Rattle.rules.specs.declared.Vertex.{Vertex}
@@ -18,7 +17,3 @@ Clean i s = s ≡ pack (unpack i s)
 pub record Holds (m : ℕ) (s : Simplex) (vs : List Vertex) : Type 0 where
   pub packed : s ≡ pack vs
   pub read : unpack m s ≡ vs
-
--- no cost is above the largest
-abbrev pub Capped : List ℕ → Type 0
-Capped cs = (i : ℕ) → get_or cs i 0 ≤ max_cost

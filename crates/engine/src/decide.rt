@@ -1,87 +1,87 @@
-// What an accepted reading decides by the table of "Iteration", and which vertex it brings. Why `Ready` stands in each contract is said in
-// transition.rt.
-ghost use Rattle.std.specs.Prelude.{◌≡◌};
-ghost use Rattle.rules.specs.Accept.{wins};
+// What an accepted reading decides: document 01's table, and the ends of builds, shrinks and probe rounds.
+ghost use Rattle.std.specs.Prelude.{◌≡◌, ◌*◌, ◌≤◌, ◌<◌};
+ghost use Rattle.rules.specs.Decide.{wins, decided, finished_by};
+ghost use Rattle.rules.specs.declared.Phase.TheVariants.{Reflecting, Probing};
 ghost use Rattle.engine.specs.Ready.{Ready};
-ghost use Rattle.engine.specs.Decide.{row_of, side_of, decision_in, kept_in};
 
-use super::point::trial;
-use super::stop::Piece;
-use rules::{Phase, Search, Side, Vertex};
-
-// What an iteration's reading decides by the table, or what another phase's reading is for. A value and no closure: the promise of
-// `decided` is that it equals the table's.
-#[derive(Clone, Copy)]
-pub(super) enum Decision {
-    Build(usize),
-    Take(Piece),
-    Wait(Phase),
-    Shrink,
-    Shrunk(usize),
-    Probe(usize),
-    Nothing,
-}
+use rules::{Cause, Decision, Keeping, Newcomer, Phase, Piece, Search, Side};
 
 // r told: the four rows of the table, by the costs at places 1, n and n + 1.
-fn reflected_on(s: &Search, cost: u64) -> Decision
-    requires { Ready s.now }
-    ensures { result ≡ row_of cost s.now }
+#[tactic(auto, unfolding(rules::specs::Decide::decided))]
+fn reflected_on(s: &Search, fr: u64) -> Decision
+    requires { (1 ≤ s.now.setup.n) × (s.now.setup.n ≤ 8) }
+    ensures { result ≡ decided Reflecting s.now fr }
 {
     let n = s.setup.n;
     let costs = &s.standing.costs;
-    if cost < costs[0] {
-        Decision::Wait(Phase::Expanding(cost))
-    } else if cost < costs[n - 1] {
-        Decision::Take(Piece::Reflection)
-    } else if cost < costs[n] {
-        Decision::Wait(Phase::Contracting(Side::Outside, cost))
+    if fr < costs[0] {
+        Decision::Go(Keeping::Nothing, Phase::Expanding(fr))
+    } else if fr < costs[n - 1] {
+        Decision::Take(Piece::Reflection, Newcomer::Latest)
+    } else if fr < costs[n] {
+        Decision::Go(Keeping::Nothing, Phase::Contracting(Side::Outside, fr))
     } else {
-        Decision::Wait(Phase::Contracting(Side::Inside, cost))
+        Decision::Go(Keeping::Nothing, Phase::Contracting(Side::Inside, fr))
     }
 }
 
-// The outside or inside point told: it is taken, or a shrink begins.
-fn contracted_on(s: &Search, side: Side, fr: u64, fc: u64) -> Decision
-    requires { Ready s.now }
-    ensures { result ≡ side_of (wins side fr fc s.now) }
+// Whether the outside or inside point is taken.
+fn wins(s: &Search, side: Side, fr: u64, fc: u64) -> bool
+    requires { s.now.setup.n ≤ 8 }
+    ensures { result ≡ wins side fr fc s.now }
 {
-    let wins = match side {
+    match side {
         Side::Outside => fc <= fr,
         Side::Inside => fc < s.standing.costs[s.setup.n],
-    };
-    if wins {
-        Decision::Take(Piece::Contraction)
+    }
+}
+
+// Probe p told: a lower one restarts, the last of a full round settles the search.
+#[tactic(auto, unfolding(rules::specs::Decide::decided))]
+fn probed_on(s: &Search, p: usize, cost: u64) -> Decision
+    requires { (s.now.setup.n ≤ 8) × (p < 2 * s.now.setup.n) }
+    ensures { result ≡ decided (Probing p) s.now cost }
+{
+    if cost < s.best.cost {
+        Decision::Restart
+    } else if p + 1 == 2 * s.setup.n {
+        Decision::Go(Keeping::Nothing, Phase::Ended(Cause::Settled))
     } else {
-        Decision::Shrink
+        Decision::Go(Keeping::Nothing, Phase::Probing(p + 1))
     }
 }
 
-// What a reading of this cost decides in each phase.
-pub(super) fn decided(s: &Search, phase: Phase, cost: u64) -> Decision
+// What a reading of this cost decides in each phase. Why `Ready` stands in its contract is said in accept.rt.
+#[tactic(auto, unfolding(rules::specs::Decide::decided))]
+pub(super) fn decided(s: &Search, cost: u64) -> Decision
     requires { Ready s.now }
-    ensures { result ≡ decision_in phase cost s.now }
+    ensures { result ≡ decided s.now.phase s.now cost }
 {
-    match phase {
-        Phase::Building(i) => Decision::Build(i),
+    let n = s.setup.n;
+    match s.phase {
+        Phase::Building(i) if i == n => Decision::Stand(Piece::Build),
+        Phase::Building(i) => Decision::Go(Keeping::Joined, Phase::Building(i + 1)),
         Phase::Reflecting => reflected_on(s, cost),
-        Phase::Expanding(_) => Decision::Take(Piece::Expansion),
-        Phase::Contracting(side, fr) => contracted_on(s, side, fr, cost),
-        Phase::Shrinking(j) => Decision::Shrunk(j),
-        Phase::Probing(p) => Decision::Probe(p),
-        Phase::Ended(_) => Decision::Nothing,
+        Phase::Expanding(fr) if cost < fr => Decision::Take(Piece::Expansion, Newcomer::Latest),
+        Phase::Expanding(fr) => Decision::Take(Piece::Expansion, Newcomer::Reflected(fr)),
+        Phase::Contracting(side, fr) if wins(s, side, fr, cost) => Decision::Take(
+            Piece::Contraction,
+            Newcomer::Latest,
+        ),
+        Phase::Contracting(_, _) => Decision::Go(Keeping::First, Phase::Shrinking(1)),
+        Phase::Shrinking(j) if j == n => Decision::Stand(Piece::Shrink),
+        Phase::Shrinking(j) => Decision::Go(Keeping::Joined, Phase::Shrinking(j + 1)),
+        Phase::Probing(p) => probed_on(s, p, cost),
+        Phase::Ended(cause) => Decision::Go(Keeping::Nothing, Phase::Ended(cause)),
     }
 }
 
-// The vertex that the reading v brings: r where e is told and not lower than r, else its own.
-pub(super) fn kept(s: &Search, phase: Phase, v: Vertex) -> Vertex
-    requires { Ready s.now }
-    ensures { result ≡ kept_in phase v s.now }
+// The piece that a decision finishes, if any.
+pub(super) fn finished_by(decision: Decision) -> Option<Piece>
+    ensures { result ≡ finished_by decision }
 {
-    match phase {
-        Phase::Expanding(fr) if fr <= v.cost => Vertex {
-            point: trial(s, Phase::Reflecting),
-            cost: fr,
-        },
-        _ => v,
+    match decision {
+        Decision::Take(piece, _) | Decision::Stand(piece) => Some(piece),
+        Decision::Go(_, _) | Decision::Restart => None,
     }
 }

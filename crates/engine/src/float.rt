@@ -17,9 +17,9 @@ pub(super) fn clamp(x: &Axis, v: f64) -> f64
     }
 }
 
-// from + k * (to - back), the form of every move, clamped to the axis.
-pub(super) fn moved(x: &Axis, from: f64, k: f64, to: f64, back: f64) -> f64
-    ensures { result ≡ clamp x.now.lo x.now.hi (move from k to back) }
+// from + k * (to - back), the form of every move.
+pub(super) fn moved_from(from: f64, k: f64, to: f64, back: f64) -> f64
+    ensures { result ≡ move from k to back }
 {
-    clamp(x, from + k * (to - back))
+    from + k * (to - back)
 }

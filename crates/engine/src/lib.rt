@@ -5,16 +5,21 @@
 
 use rules::{Asked, Opened, Opening, Refusal, Search, Vertex};
 
-mod change;
+mod accept;
+mod centroid;
+mod count;
 mod decide;
 mod float;
 mod insert;
 mod opening;
+mod phase;
 mod place;
 mod point;
 mod sound;
 mod stop;
-mod transition;
+mod trial;
+mod vertices;
+mod view;
 
 ghost use Rattle.std.specs.Prelude.{◌≡◌};
 ghost use Rattle.rules.specs.Refusals.{number_of, axis_of};
@@ -35,14 +40,14 @@ pub fn open_search(given: &Opening) -> Opened
 }
 
 // The trial to measure next, with its reading number.
-#[tactic(auto, using(crate::proofs::Laws::Checking::exit, crate::proofs::Laws::Sounding::asks), unfolding(rules::specs::Calls::asking, rules::specs::Trial::trial))]
+#[tactic(auto, using(crate::proofs::Laws::Checking::exit, crate::proofs::Laws::Sounding::ask_takes), unfolding(rules::specs::Calls::asking, rules::specs::Trial::trial))]
 pub fn ask(search: &Search) -> Result<Asked, Refusal>
     ensures { result ≡ asking search.now }
 {
     sound::ask_verdict(search)?;
     Ok(Asked {
         number: search.readings + 1,
-        point: point::trial(search, search.phase),
+        point: trial::trial(search, search.phase),
     })
 }
 
@@ -53,7 +58,7 @@ pub fn tell(search: &mut Search, number: u64, cost: u64) -> Result<(), Refusal>
     ensures search { search.new ≡ (telling search.old number cost).search }
 {
     sound::tell_verdict(search, number, cost)?;
-    transition::accept(search, cost);
+    accept::accept(search, cost);
     Ok(())
 }
 

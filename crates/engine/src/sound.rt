@@ -1,27 +1,10 @@
 // The verdicts of the later calls: refusal 12, then 8 to 11. Where n ≤ 8 is asked for, `sound` has just tested it: no type holds it of a
 // search that may be made up.
-ghost use Rattle.std.specs.Prelude.{◌≡◌, ◌&&◌, ◌≤◌};
-ghost use Rattle.rules.specs.Simplex.{unpack};
-ghost use Rattle.rules.specs.Calls.{sound_phase, gathered_in, standing_of, gathered_of, in_order, all_costs, sound_rule, sound_counts, sound, undamaged, ask_verdict, tell_verdict, best_verdict};
+ghost use Rattle.std.specs.Prelude.{◌≡◌, ◌≤◌};
+ghost use Rattle.rules.specs.Calls.{sound_phase, standing_in, in_order, all_costs, sound_rule, sound_counts, intact, undamaged, ask_verdict, tell_verdict, best_verdict};
 
-use super::change::is_ended;
-use rules::{Counts, MAX_BUDGET, MAX_COST, MAX_SPREAD, Phase, Refusal, Rule, Search, Simplex};
-
-// Whether no cost is above the largest.
-fn all_costs(costs: &[u64]) -> bool
-    ensures { result ≡ all_costs costs.now }
-{
-    costs.iter().all(|&c| c <= MAX_COST)
-}
-
-// Whether the first m places are in cost order.
-#[tactic(auto, using(crate::proofs::Laws::Sounding::orders))]
-fn in_order(s: &Simplex, m: usize) -> bool
-    requires { m ≤ 9 }
-    ensures { result ≡ in_order (unpack m s.now) }
-{
-    s.costs[..m].is_sorted()
-}
+use super::view::{gathered_in, is_ended};
+use rules::{Counts, MAX_BUDGET, MAX_COST, MAX_SPREAD, Phase, Refusal, Rule, Search};
 
 // Whether a phase's vertex or probe number is one of its trials, and its cost in range.
 fn sound_phase(n: usize, builds: u64, phase: Phase) -> bool
@@ -34,16 +17,6 @@ fn sound_phase(n: usize, builds: u64, phase: Phase) -> bool
         Phase::Shrinking(j) => 1 <= j && j <= n,
         Phase::Probing(p) => p < 2 * n,
         Phase::Reflecting | Phase::Ended(_) => true,
-    }
-}
-
-// How many vertices the unfinished build or shrink has gathered.
-fn gathered_in(phase: Phase) -> usize
-    ensures { result ≡ gathered_in phase }
-{
-    match phase {
-        Phase::Building(i) | Phase::Shrinking(i) => i,
-        _ => 0,
     }
 }
 
@@ -70,20 +43,34 @@ fn sound_counts(budget: u64, c: &Counts) -> bool
         && c.unfinished <= budget
 }
 
-// Whether the vertices that a search holds are in cost order.
-#[tactic(auto, unfolding(rules::specs::Calls::in_order))]
-fn ordered(s: &Search) -> bool
-    requires { (s.now.setup.n ≤ 8) × (gathered_in s.now.phase ≤ 9) }
-    ensures { result ≡ (in_order (standing_of s.now) && in_order (gathered_of s.now)) }
+// Whether no cost is above the largest. A pass of its own beside that of `in_order`: one loop for both was tried, and took twice the
+// instructions.
+fn all_costs(costs: &[u64]) -> bool
+    ensures { result ≡ all_costs costs.now }
 {
-    (s.counts.builds == 0 || in_order(&s.standing, s.setup.n + 1))
-        && in_order(&s.gathered, gathered_in(s.phase))
+    costs.iter().all(|&c| c <= MAX_COST)
+}
+
+// Whether the costs are in order.
+#[tactic(auto, using(crate::proofs::Laws::Sounding::orders))]
+fn in_order(costs: &[u64]) -> bool
+    ensures { result ≡ in_order costs.now }
+{
+    costs.is_sorted()
+}
+
+// How many vertices stand, after so many builds.
+fn standing_in(n: usize, builds: u64) -> usize
+    requires { n ≤ 8 }
+    ensures { result ≡ standing_in n builds }
+{
+    if builds == 0 { 0 } else { n + 1 }
 }
 
 // None of the causes of refusal 12, for a search that has not ended.
 #[tactic(auto, unfolding(rules::specs::Calls::sound))]
-fn sound(s: &Search) -> bool
-    ensures { result ≡ sound s.now }
+fn intact(s: &Search) -> bool
+    ensures { result ≡ intact s.now }
 {
     1 <= s.setup.n
         && s.setup.n <= 8
@@ -92,7 +79,8 @@ fn sound(s: &Search) -> bool
         && s.setup.budget <= MAX_BUDGET
         && sound_rule(s.setup.rule)
         && sound_phase(s.setup.n, s.counts.builds, s.phase)
-        && ordered(s)
+        && in_order(&s.standing.costs[..standing_in(s.setup.n, s.counts.builds)])
+        && in_order(&s.gathered.costs[..gathered_in(s.phase)])
         && all_costs(&s.standing.costs)
         && all_costs(&s.gathered.costs)
         && s.best.cost <= MAX_COST
@@ -102,7 +90,7 @@ fn sound(s: &Search) -> bool
 fn undamaged(s: &Search) -> bool
     ensures { result ≡ undamaged s.now }
 {
-    is_ended(s.phase) || sound(s)
+    is_ended(s.phase) || intact(s)
 }
 
 // The refusals of ask: 12, 8.
@@ -120,7 +108,7 @@ pub(super) fn ask_verdict(s: &Search) -> Result<(), Refusal>
 }
 
 // The refusals of tell: those of ask, then 10, 9.
-#[tactic(auto, using(crate::proofs::Laws::Checking::exit, crate::proofs::Laws::Sounding::ask_below, crate::proofs::Laws::Checking::tell_after_ask))]
+#[tactic(auto, using(crate::proofs::Laws::Checking::exit, crate::proofs::Laws::Sounding::ask_takes, crate::proofs::Laws::Checking::tell_after_ask))]
 pub(super) fn tell_verdict(s: &Search, number: u64, cost: u64) -> Result<(), Refusal>
     ensures { result ≡ tell_verdict s.now number cost }
 {

@@ -1,25 +1,14 @@
 // The three stopping rules, spread, moved and size, tested where a build or an iteration ends. Why `Ready` stands in the contracts is said in
-// transition.rt.
-ghost use Rattle.std.specs.Prelude.{◌≡◌, map, ◌*◌, ◌≤◌, length, drop};
+// accept.rt.
+ghost use Rattle.std.specs.Prelude.{◌≡◌, true, map, ◌+◌, ◌*◌, ◌≤◌, length, drop};
 ghost use Rattle.rules.specs.Numbers.{max_cost, max_spread};
 ghost use Rattle.rules.specs.Simplex.{place, unpack, cost_of};
-ghost use Rattle.rules.specs.Stop.{total, square, spread_met, apart, norm, scale, all_within, size_met};
-ghost use Rattle.engine.specs.Places.{Capped};
+ghost use Rattle.rules.specs.Stop.{total, square, spread_met, apart, norm, scale, all_within, size_met, met};
+ghost use Rattle.rules.specs.Calls.{all_costs};
 ghost use Rattle.engine.specs.Ready.{Ready};
-ghost use Rattle.engine.specs.Finish.{met_by, stands};
 
 use super::place::point_at;
-use rules::{Rule, Search, Simplex};
-
-// A build, or an iteration by the row of the table that ends it.
-#[derive(Clone, Copy)]
-pub(super) enum Piece {
-    Build,
-    Reflection,
-    Expansion,
-    Contraction,
-    Shrink,
-}
+use rules::{Piece, Rule, Search, Simplex};
 
 // A sum of costs, and the sum of their squares.
 #[derive(Clone, Copy)]
@@ -58,7 +47,7 @@ fn norm(x: &[f64]) -> f64
 // sum is not the rules' total.
 #[tactic(auto, using(crate::proofs::Laws::Stopping::sums), unfolding(rules::specs::Stop::total))]
 fn sums_of(s: &Simplex, m: usize) -> Sums
-    requires { (m ≤ 9) × Capped s.now.costs }
+    requires { (m ≤ 9) × (all_costs s.now.costs ≡ true) }
     ensures sums { let costs = map cost_of (unpack m s.now) in (result.plain ≡ total costs) × (result.squares ≡ total (map square costs)) }
     ensures low { (result.plain ≤ 9 * max_cost) × (result.squares ≤ 9 * square max_cost) }
 {
@@ -75,7 +64,7 @@ fn sums_of(s: &Simplex, m: usize) -> Sums
 #[tactic(auto, unfolding(rules::specs::Stop::spread_met))]
 fn spread_met(s: &Search, e: u64) -> bool
     requires { (Ready s.now) × (e ≤ max_spread) }
-    ensures { result ≡ spread_met s.now.setup.n e (stands s.now) }
+    ensures { result ≡ spread_met s.now.setup.n e (unpack (s.now.setup.n + 1) s.now.standing) }
 {
     let k = s.setup.n as u64;
     let both = sums_of(&s.standing, s.setup.n + 1);
@@ -86,7 +75,7 @@ fn spread_met(s: &Search, e: u64) -> bool
 #[tactic(auto, using(crate::proofs::Laws::Stopping::within_next, crate::proofs::Laws::Placing::rest_none), unfolding(rules::specs::Stop::all_within))]
 fn all_within(s: &Search, limit: f64) -> bool
     requires { Ready s.now }
-    ensures { result ≡ all_within s.now.setup.n limit (place s.now.standing 0).point (drop 1 (stands s.now)) }
+    ensures { result ≡ all_within s.now.setup.n limit (place s.now.standing 0).point (drop 1 (unpack (s.now.setup.n + 1) s.now.standing)) }
 {
     let n = s.setup.n;
     let first = point_at(&s.standing, 0);
@@ -110,18 +99,18 @@ fn scale(q: f64) -> f64
 #[tactic(auto, using(crate::proofs::Laws::Stopping::norm_take, crate::proofs::Laws::Stopping::size_at))]
 fn size_met(s: &Search, e: f64) -> bool
     requires { Ready s.now }
-    ensures { result ≡ size_met s.now.setup.n e (stands s.now) }
+    ensures { result ≡ size_met s.now.setup.n e (unpack (s.now.setup.n + 1) s.now.standing) }
 {
     let first = point_at(&s.standing, 0);
     let q = norm(&first[..s.setup.n]);
     all_within(s, e * e * scale(q))
 }
 
-// Whether the rule is met by the vertices that stand at the end of a piece, the points having moved so far.
-#[tactic(auto, using(crate::proofs::Laws::Stopping::met_by_moved), unfolding(crate::specs::Finish::met_by))]
+// Whether the rule is met at the end of the piece, by the vertices that stand then, the points having moved so far.
+#[tactic(auto, unfolding(rules::specs::Stop::met))]
 pub(super) fn met(s: &Search, piece: Piece, movement: f64) -> bool
     requires { Ready s.now }
-    ensures { result ≡ met_by s.now.setup.rule s.now.setup.n piece movement (stands s.now) }
+    ensures { result ≡ met s.now.setup.rule s.now.setup.n piece movement (unpack (s.now.setup.n + 1) s.now.standing) }
 {
     match s.setup.rule {
         Rule::Spread(e) => spread_met(s, e),

@@ -13,12 +13,12 @@ use borrow.Author.Tests.{eqb-true, ne_eqb, eq-eqb, lt-leb}
 use Rattle.std.proofs.lemmas.Bool.{cases_Bool}
 use Rattle.rules.specs.Binary64.{◌≤ᶠ◌}
 use Rattle.rules.specs.Numbers.{max_cost}
+use Rattle.rules.specs.View.{is_ended}
 use Rattle.rules.specs.Trial.{no_axis, trial}
-use Rattle.rules.specs.Accept.{run}
 use Rattle.rules.specs.Refusals.{Verdict, check, answered}
 use Rattle.rules.specs.Opening.{opening, fresh}
-use Rattle.rules.specs.Calls.{is_ended, undamaged, ask_verdict, tell_verdict, best_verdict, asking, telling, showing, told_by}
-use Rattle.rules.specs.History.{Call, tell, after1, after, joins, history1, history_from, history, reading}
+use Rattle.rules.specs.Calls.{undamaged, ask_verdict, tell_verdict, best_verdict, asking, telling, showing, told_by}
+use Rattle.rules.specs.History.{Call, tell, Event, told, after1, after, run, costs_in, joins, history1, history_from, history, reading}
 use Rattle.rules.specs.Claims.{Within, Claims}
 use Rattle.rules.specs.declared.Rule.{Rule}
 use Rattle.rules.specs.declared.Axis.{Axis}
@@ -30,7 +30,7 @@ use Rattle.rules.specs.declared.Vertex.{Vertex}
 use Rattle.rules.specs.declared.Refusal.{Refusal}
 use Rattle.rules.specs.declared.Refusal.TheVariants.{SearchEnded, CostTooHigh, WrongNumber, NoReading, Damaged}
 use Rattle.rules.proofs.Laws.Openings.{opened_verdict, opened_fresh, opened_axis}
-use Rattle.rules.proofs.Laws.Histories.{Joined}
+use Rattle.rules.proofs.Laws.Histories.{Joined, costs_in_append}
 use Rattle.rules.proofs.Runs.Begun.{Begun, whole_run}
 use Rattle.rules.proofs.Runs.Calling.{run_undamaged, all_follow}
 use Rattle.rules.proofs.Claim.{opened_begun, claim}
@@ -92,7 +92,7 @@ module _ (s : Search) (h : undamaged s ≡ true) where
   tell_not_12 k c e = grind (arith, h)
 
 -- a tell that joins has the next number
-joins_number : (o : Search) (h : List ℕ) (k c : ℕ) → joins o h k c ≡ true → eqb k (length h + 1) ≡ true
+joins_number : (o : Search) (h : List Event) (k c : ℕ) → joins o h k c ≡ true → eqb k (length (costs_in h) + 1) ≡ true
 joins_number o h k c e = (simp and-eq-true_iff at e).0.1
 
 -- ---- one call more at the end of a list
@@ -104,7 +104,7 @@ after_snoc s [] c = refl
 after_snoc s (d ∷ cs) c = after_snoc (after1 s d) cs c
 
 -- the history after a list of calls and one call more is what that call makes of the history after the list
-history_snoc : (o : Search) (h : List ℕ) (cs : List Call) (c : Call) → history_from o h (cs ++ c ∷ []) ≡ history1 o (history_from o h cs) c
+history_snoc : (o : Search) (h : List Event) (cs : List Call) (c : Call) → history_from o h (cs ++ c ∷ []) ≡ history1 o (history_from o h cs) c
 unfolding history_from
 history_snoc o h [] c = refl
 history_snoc o h (d ∷ cs) c = history_snoc o (history1 o h d) cs c
@@ -119,33 +119,36 @@ module _ (n : ℕ) (axes : List Axis) (rule : Option Rule) (coefficients : Coeff
   setup_given : opened_search.setup ≡ (fresh n axes rule coefficients budget).setup
   setup_given = ap (λ s. s.setup) (opened_fresh n axes rule coefficients budget accepted)
 
-  -- what the calls have made of the opened search, and their history
+  -- what the calls have made of the opened search, their history, and the costs of it
   abbrev pub reached : List Call → Search
   reached cs = after opened_search cs
 
-  abbrev pub accepted_costs : List Call → List ℕ
-  accepted_costs cs = history opened_search cs
+  abbrev pub accepted_history : List Call → List Event
+  accepted_history cs = history opened_search cs
 
-  claims : (cs : List Call) → Claims opened_search (accepted_costs cs) (reached cs)
+  abbrev pub accepted_costs : List Call → List ℕ
+  accepted_costs cs = costs_in (accepted_history cs)
+
+  claims : (cs : List Call) → Claims opened_search (accepted_history cs) (reached cs)
   claims = claim n axes rule coefficients budget accepted
 
   begun : Begun opened_search
   begun = opened_begun n axes rule coefficients budget accepted
 
   -- the search is that of the rules over an accepted history
-  followed : (cs : List Call) → Joined opened_search (accepted_costs cs) × (reached cs ≡ run opened_search (accepted_costs cs))
+  followed : (cs : List Call) → Joined opened_search (accepted_history cs) × (reached cs ≡ run opened_search (accepted_history cs))
   unfolding run Joined
   followed cs = all_follow opened_search begun cs [] tt
 
   -- refusal 12 is never given
   pub sound_always : (cs : List Call) → undamaged (reached cs) ≡ true
-  sound_always cs = rw (followed cs).1 (run_undamaged opened_search begun (accepted_costs cs) (followed cs).0)
+  sound_always cs = rw (followed cs).1 (run_undamaged opened_search begun (accepted_history cs) (followed cs).0)
 
   pub never_12 : (cs : List Call) → Not12 (asking (reached cs)) × ((k c : ℕ) → Not12 (telling (reached cs) k c).verdict) × Not12 (showing (reached cs))
   never_12 cs = let h = sound_always cs in (ask_not_12 (reached cs) h, tell_not_12 (reached cs) h, best_not_12 (reached cs) h)
 
   -- tell accepts exactly when the history says so
-  pub tell_exactly : (cs : List Call) (k c : ℕ) → ((telling (reached cs) k c).verdict ≡ Ok tt) ↔ (joins opened_search (accepted_costs cs) k c ≡ true)
+  pub tell_exactly : (cs : List Call) (k c : ℕ) → ((telling (reached cs) k c).verdict ≡ Ok tt) ↔ (joins opened_search (accepted_history cs) k c ≡ true)
   tell_exactly cs = (claims cs).accepts
 
   -- ---- the controller: every trial lies within the limits that the opening gave
@@ -162,12 +165,12 @@ module _ (n : ℕ) (axes : List Axis) (rule : Option Rule) (coefficients : Coeff
 
   pub controller_asked : (cs : List Call) → is_ended (reached cs).phase ≡ false → (a : Asked) × (asking (reached cs) ≡ Ok a) × Permitted a.point
   controller_asked cs e =
-      let a : Asked = record { number = length (accepted_costs cs) + 1; point = trial (run opened_search (accepted_costs cs)) } in
+      let a : Asked = record { number = length (accepted_costs cs) + 1; point = trial (run opened_search (accepted_history cs)) } in
       let answers : asking (reached cs) ≡ Ok a = (claims cs).asks e in
       (a, answers, permitted a.point ((claims cs).within_asked a answers))
 
-  pub controller_told : (cs : List Call) (k : ℕ) → k < length (accepted_costs cs) → Permitted (reading opened_search (accepted_costs cs) k).point
-  controller_told cs k l = permitted (reading opened_search (accepted_costs cs) k).point ((claims cs).within_told k l)
+  pub controller_told : (cs : List Call) (k : ℕ) → k < length (accepted_costs cs) → Permitted (reading opened_search (accepted_history cs) k).point
+  controller_told cs k l = permitted (reading opened_search (accepted_history cs) k).point ((claims cs).within_told k l)
 
   -- an ended search proposes nothing more
   pub controller_ended : (cs : List Call) → is_ended (reached cs).phase ≡ true → asking (reached cs) ≡ Err SearchEnded
@@ -183,13 +186,15 @@ module _ (n : ℕ) (axes : List Axis) (rule : Option Rule) (coefficients : Coeff
   camera_wrong cs k c d = tell_wrong (reached cs) (sound_always cs) k c (λ e. d (e ∙ ap (λ (m : ℕ). m + 1) (claims cs).readings))
 
   pub camera_twice : (cs : List Call) (k c d : ℕ) → (telling (reached cs) k c).verdict ≡ Ok tt → Unmoved (telling (reached cs) k c).search k d
+  unfolding costs_in
   camera_twice cs k c d e =
       let more = cs ++ tell k c ∷ [] in
-      let h = accepted_costs cs in
+      let h = accepted_history cs in
       let j = ((claims cs).accepts k c).0 e in
-      let costs : accepted_costs more ≡ h ++ c ∷ [] = history_snoc opened_search [] cs (tell k c) ∙ rw j in
-      let number : k ≡ length h + 1 = eqb-true k (length h + 1) (joins_number opened_search h k c j) in
-      let late : k ≡ length (accepted_costs more) + 1 → ⊥ = λ q. omega (arith, rw (costs, length-append h (c ∷ [])) at q) in
+      let longer : accepted_history more ≡ h ++ told c ∷ [] = history_snoc opened_search [] cs (tell k c) ∙ rw j in
+      let costs : accepted_costs more ≡ costs_in h ++ c ∷ [] = rw longer (costs_in_append h (told c ∷ [])) in
+      let number : k ≡ length (costs_in h) + 1 = eqb-true k (length (costs_in h) + 1) (joins_number opened_search h k c j) in
+      let late : k ≡ length (accepted_costs more) + 1 → ⊥ = λ q. omega (arith, rw (costs, length-append (costs_in h) (c ∷ [])) at q) in
       rw (after_snoc opened_search cs (tell k c)) at (camera_wrong more k d late)
 
   -- where the search has not ended, the next number with a cost above the largest is refused as 9, and the search stays
@@ -201,9 +206,9 @@ module _ (n : ℕ) (axes : List Axis) (rule : Option Rule) (coefficients : Coeff
 
   pub panel_best : (cs : List Call) → 0 < length (accepted_costs cs)
       → (v : Vertex) × (showing (reached cs) ≡ Ok v)
-      × ((k : ℕ) × (k < length (accepted_costs cs)) × (v ≡ reading opened_search (accepted_costs cs) k))
-      × ((j : ℕ) → j < length (accepted_costs cs) → v.cost ≤ (reading opened_search (accepted_costs cs) j).cost)
-  panel_best cs l = let b = (claims cs).best l in (reading opened_search (accepted_costs cs) b.0, b.2, (b.0, b.1.told, refl), λ j m. b.1.least j m)
+      × ((k : ℕ) × (k < length (accepted_costs cs)) × (v ≡ reading opened_search (accepted_history cs) k))
+      × ((j : ℕ) → j < length (accepted_costs cs) → v.cost ≤ (reading opened_search (accepted_history cs) j).cost)
+  panel_best cs l = let b = (claims cs).best l in (reading opened_search (accepted_history cs) b.0, b.2, (b.0, b.1.told, refl), λ j m. b.1.least j m)
 
   pub panel_none : (cs : List Call) → length (accepted_costs cs) ≡ 0 → showing (reached cs) ≡ Err NoReading
   panel_none cs e = best_none (reached cs) (sound_always cs) ((claims cs).readings ∙ e)
@@ -221,6 +226,6 @@ module _ (n : ℕ) (axes : List Axis) (rule : Option Rule) (coefficients : Coeff
   pub schedule_budget : (cs : List Call) → (reached cs).readings ≤ budget
   unfolding fresh
   schedule_budget cs =
-      let r = whole_run opened_search begun (accepted_costs cs) (followed cs).0 in
+      let r = whole_run opened_search begun (accepted_history cs) (followed cs).0 in
       let given = ap (λ (t : Setup). t.budget) (r.kept ∙ setup_given) in
       rw (followed cs).1 (omega (arith, r.inv.noted.below, given))

@@ -1,14 +1,13 @@
 -- Demand 3: the claim about every list of calls on a newly opened search. Assumes nothing.
 use Rattle.std.specs.Prelude.{Option, Ok}
 use mathlib.Core.Path.{◌≡◌, refl, ap, subst}
-use mathlib.Core.List.{List, [], ◌∷◌, ◌++◌}
+use mathlib.Core.List.{List, [], ◌∷◌, ◌++◌, map}
 use Prim.Native.Nat.{ℕ, ◌<◌}
 use native.Mathlib.Omega.{arith}
 use lib.ListN.{length, take}
-use Rattle.rules.specs.Accept.{Piece, build, reflection, expansion, contraction, shrink, run}
 use Rattle.rules.specs.Opening.{opening}
 use Rattle.rules.specs.Calls.{standing_of, asking}
-use Rattle.rules.specs.History.{Call, after, history, reading, EarliestLeast}
+use Rattle.rules.specs.History.{Event, told, Call, after, run, costs_in, history, reading, EarliestLeast}
 use Rattle.rules.specs.Tally.{readings_by, Ends}
 use Rattle.rules.specs.Claims.{Within, BoundAfter, FullRound, Claims}
 use Rattle.rules.specs.declared.Rule.{Rule}
@@ -17,39 +16,42 @@ use Rattle.rules.specs.declared.Coefficients.{Coefficients}
 use Rattle.rules.specs.declared.Setup.{Setup}
 use Rattle.rules.specs.declared.Search.{Search}
 use Rattle.rules.specs.declared.Asked.{Asked}
+use Rattle.rules.specs.declared.Piece.{Piece}
+use Rattle.rules.specs.declared.Piece.TheVariants.{Build, Reflection, Expansion, Contraction, Shrink}
 use Rattle.rules.specs.declared.Phase.TheVariants.{Ended}
 use Rattle.rules.specs.declared.Cause.TheVariants.{Settled}
 use Rattle.rules.proofs.Laws.Openings.{opened_verdict, opened_fresh, opened_sane}
 use Rattle.rules.proofs.Laws.Histories.{Joined}
-use Rattle.rules.proofs.Runs.Begun.{Begun, fresh_begun, whole_run, run_inv, run_readings, run_counts, run_unfinished, run_standing, run_places, run_vertices}
+use Rattle.rules.proofs.Runs.Begun.{Begun, fresh_begun, whole_run, run_inv, run_readings, run_counts, run_probes, run_unfinished, run_standing, run_places, run_vertices}
 use Rattle.rules.proofs.Runs.Moments.{run_first, made_since, falls_since, run_settled_only, run_settled_when, run_spent, run_within, run_within_told}
 use Rattle.rules.proofs.Runs.Calling.{telling_joins, asking_answers, asked_trial, showing_best, all_follow}
 
 -- every claim, of the rules over an accepted history
 module _ (o : Search) (begun : Begun o) where
-  first_of : (h : List ℕ) → Joined o h → (before : List ℕ) (c : ℕ) (since : List ℕ) → h ≡ before ++ c ∷ since → Ends o before c
-      → (k : ℕ) × EarliestLeast (before ++ c ∷ []) k × (take 1 (standing_of (run o (before ++ c ∷ []))) ≡ reading o h k ∷ [])
-  first_of h t before c since e ends = rw e (run_first o begun before c since (rw e at t) ends)
+  first_of : (h : List Event) → Joined o h → (before : List Event) (e : Event) (since : List Event) → h ≡ before ++ e ∷ since → Ends o before e
+      → (k : ℕ) × EarliestLeast (costs_in (before ++ e ∷ [])) k × (take 1 (standing_of (run o (before ++ e ∷ []))) ≡ reading o h k ∷ [])
+  first_of h t before e since is ends = rw is (run_first o begun before e since (rw is at t) ends)
 
-  bound_of : (p : Piece) (h : List ℕ) → Joined o h → BoundAfter p o h
-  bound_of p h t before c since e ends builds shrinks =
-      let here : Joined o (before ++ c ∷ since) = rw e at t in
-      let more = made_since o begun before c since here in
-      let falls = falls_since o begun before c since here (omega (arith, more build, rw e at builds)) (omega (arith, more shrink, rw e at shrinks)) in
-      rw e (omega (arith, more reflection, more expansion, more contraction))
+  bound_of : (p : Piece) (h : List Event) → Joined o h → BoundAfter p o h
+  bound_of p h t before e since is ends builds shrinks =
+      let here : Joined o (before ++ e ∷ since) = rw is at t in
+      let more = made_since o begun before e since here in
+      let falls = falls_since o begun before e since here (omega (arith, more Build, rw is at builds)) (omega (arith, more Shrink, rw is at shrinks)) in
+      rw is (omega (arith, more Reflection, more Expansion, more Contraction))
 
-  settled_of : (h : List ℕ) → Joined o h → (before round : List ℕ) → h ≡ before ++ round → FullRound o before round → (run o h).phase ≡ Ended Settled
-  settled_of h t before round e f = rw e (run_settled_when o begun before round (rw e at t) f)
+  settled_of : (h : List Event) → Joined o h → (before : List Event) (round : List ℕ) (since : List Event) → h ≡ before ++ map told round ++ since → FullRound o before round
+      → (since ≡ []) × ((run o h).phase ≡ Ended Settled)
+  settled_of h t before round since is f = rw is (run_settled_when o begun before round since (rw is at t) f)
 
-  within_asked_lem : (h : List ℕ) (t : Joined o h) (a : Asked) → asking (run o h) ≡ Ok a → Within o.setup a.point
-  within_asked_lem h t a e = let p = asked_trial o begun h t a e in rw p.1 (run_within o begun h t p.0)
+  within_asked_lem : (h : List Event) (t : Joined o h) (a : Asked) → asking (run o h) ≡ Ok a → Within o.setup a.point
+  within_asked_lem h t a e = rw (asked_trial o begun h t a e).1 (run_within o begun h t)
 
-  equation_of : (h : List ℕ) (t : Joined o h) → 0 < length h → (run o h).readings ≡ readings_by o.setup.n (run o h).counts
+  equation_of : (h : List Event) (t : Joined o h) → 0 < length (costs_in h) → (run o h).readings ≡ readings_by o.setup.n (run o h).counts
   equation_of h t l =
       let same = ap (λ (s : Setup). s.n) (whole_run o begun h t).kept in
       subst (λ (n : ℕ). (run o h).readings ≡ readings_by n (run o h).counts) same (omega (arith, (run_inv o begun h t).equation, run_readings o begun h t))
 
-  claims : (h : List ℕ) → Joined o h → Claims o h (run o h)
+  claims : (h : List Event) → Joined o h → Claims o h (run o h)
   claims h t =
       record {
         carried = refl;
@@ -62,20 +64,16 @@ module _ (o : Search) (begun : Begun o) where
         best = showing_best o begun h t;
         first = first_of h t;
         readings = run_readings o begun h t;
-        builds = omega (arith, (run_counts o begun h t).builds);
-        reflections = omega (arith, (run_counts o begun h t).reflections);
-        expansions = omega (arith, (run_counts o begun h t).expansions);
-        contractions = omega (arith, (run_counts o begun h t).contractions);
-        shrinks = omega (arith, (run_counts o begun h t).shrinks);
-        probes = omega (arith, (run_counts o begun h t).probes);
+        finished = run_counts o begun h t;
+        probes = run_probes o begun h t;
         unfinished = run_unfinished o begun h t;
         equation = equation_of h t;
-        bound_after_build = bound_of build h t;
-        bound_after_shrink = bound_of shrink h t;
+        bound_after_build = bound_of Build h t;
+        bound_after_shrink = bound_of Shrink h t;
         settled_only = run_settled_only o begun h t;
         settled_when = settled_of h t;
         spent = run_spent o begun h t;
-        within_told = run_within_told o begun h t;
+        within_told = λ k l. run_within_told o begun h t k;
         within_asked = within_asked_lem h t;
       }
 

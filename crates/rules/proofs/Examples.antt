@@ -4,15 +4,17 @@ use mathlib.Core.Path.{◌≡◌, refl}
 use lib.Count.{count_trailing_zeros}
 use lib.Ieee.{of_bits, of_fields, to_bits, odd, neg, add, sub, mul, div, sum, round, size, span, climb, units, le, lt, eq, of_int}
 use Rattle.rules.specs.Simplex.{up_to, flat, store, unpack, insert}
-use Rattle.rules.specs.Trial.{sum_to, centroid, reflected, expanded, contracted, shrunk, built, probed, trial}
-use Rattle.rules.specs.Stop.{total, spread_met, apart, movement, moved_met, norm, all_within, size_met}
-use Rattle.rules.specs.Accept.{met, finished, taken, built_on, reflected_on, expanded_on, contracted_on, shrunk_on, probed_on, advanced, accept, run}
+use Rattle.rules.specs.Trial.{sum_to, centroid, trial}
+use Rattle.rules.specs.Stop.{total, spread_met, apart, movement, norm, all_within, size_met, met}
+use Rattle.rules.specs.Decide.{decided}
+use Rattle.rules.specs.Accept.{accept}
+use Rattle.rules.specs.History.{run}
 use Rattle.rules.specs.Opening.{axes_checks, open_verdict, fresh, opening}
 use Rattle.rules.specs.Calls.{in_order, all_costs, sound, ask_verdict, tell_verdict, best_verdict, asking, telling, showing}
 use Rattle.rules.specs.Examples.{given, paper}
 use Rattle.rules.specs.Cases.{cases_given, cases_stated, openings_given, openings_stated}
 use Rattle.rules.specs.Answers.{endings_given, endings_stated, refusals_given, refusals_stated, numbers_given, numbers_stated, axes_given, axes_stated}
-use Rattle.rules.specs.Further.{trials_given, trials_stated, pieces_given, pieces_stated, best_given, best_stated}
+use Rattle.rules.specs.Further.{trials_given, trials_stated, pieces_given, pieces_stated, held_given, held_stated}
 
 -- to unfold this is to compute with floats
 unfoldable pub floats : Unit {0}
@@ -21,7 +23,7 @@ floats = tt
 
 -- to unfold this is to run the rules
 unfoldable pub rules : Unit {0}
-unfolding floats fresh up_to flat store unpack insert sum_to centroid reflected expanded contracted shrunk built probed trial total spread_met apart movement moved_met norm all_within size_met met finished taken built_on reflected_on expanded_on contracted_on shrunk_on probed_on advanced accept run
+unfolding floats fresh up_to flat store unpack insert sum_to centroid trial total spread_met apart movement norm all_within size_met met decided accept run
 rules = tt
 
 -- to unfold this is to run the calls
@@ -63,6 +65,6 @@ pub further_pieces : pieces_given ≡ pieces_stated
 unfolding pieces_given pieces_stated rules
 further_pieces = refl
 
-pub further_refusals : best_given ≡ best_stated
-unfolding best_given best_stated rules in_order all_costs sound ask_verdict
+pub further_refusals : held_given ≡ held_stated
+unfolding held_given held_stated rules in_order all_costs sound ask_verdict
 further_refusals = refl

@@ -2,10 +2,10 @@
 use Rattle.std.specs.Prelude.{List, [], ◌∷◌, map, ℕ, replicate, Float, Option, Some, None, Ok, Err}
 use Rattle.rules.specs.Binary64.{0ᶠ, 2ᶠ, 8ᶠ}
 use Rattle.rules.specs.Numbers.{usual}
-use Rattle.rules.specs.Accept.{run}
 use Rattle.rules.specs.Refusals.{Verdict, number_of, axis_of}
 use Rattle.rules.specs.Opening.{fresh}
 use Rattle.rules.specs.Calls.{ask_verdict, tell_verdict, best_verdict}
+use Rattle.rules.specs.Examples.{after_costs}
 use Rattle.rules.specs.Cases.{case_axis}
 use Rattle.rules.specs.declared.Search.{Search}
 use Rattle.rules.specs.declared.Phase.{Phase}
@@ -20,7 +20,7 @@ fresh_with n start budget = fresh n (replicate 8 (case_axis start 8ᶠ)) None us
 
 -- the phase of `fresh_with` after the costs cs
 abbrev pub phase_after : ℕ → Float → ℕ → List ℕ → Phase
-phase_after n start budget cs = (run (fresh_with n start budget) cs).phase
+phase_after n start budget cs = (after_costs (fresh_with n start budget) cs).phase
 
 -- how searches stand by the rules
 unfoldable pub endings_given : List Phase
@@ -63,11 +63,11 @@ unread_search = fresh_with 2 0ᶠ 100
 
 -- a search whose budget of 3 is spent
 abbrev pub spent_search : Search
-spent_search = run (fresh_with 2 0ᶠ 3) (30 ∷ 20 ∷ 10 ∷ [])
+spent_search = after_costs (fresh_with 2 0ᶠ 3) (30 ∷ 20 ∷ 10 ∷ [])
 
 -- the search s with another number of readings, which no call gives it
 abbrev pub with_readings : ℕ → Search → Search
-with_readings k s = record { setup = s.setup; phase = s.phase; standing = s.standing; gathered = s.gathered; center = s.center; readings = k; best = s.best; counts = s.counts }
+with_readings k s = record s { readings = k }
 
 -- the refusals of later calls by the rules
 unfoldable pub refusals_given : List ℕ

@@ -1,8 +1,9 @@
 -- "Refused calls", the rows of the later calls: ask, tell and best, their refusals in table order, and their answers.
-use Rattle.std.specs.Prelude.{Bool, true, false, cond, not, ◌&&◌, ◌||◌, List, [], ◌∷◌, ℕ, ◌+◌, ◌*◌, leb, ltb, eqb, Result, Ok, Err}
+use Rattle.std.specs.Prelude.{Bool, true, cond, not, ◌&&◌, ◌||◌, List, [], ◌∷◌, ℕ, ◌+◌, ◌*◌, take, leb, ltb, eqb, Result, Ok, Err}
 use Rattle.rules.specs.Binary64.{0ᶠ}
 use Rattle.rules.specs.Numbers.{max_cost, max_budget, max_spread}
 use Rattle.rules.specs.Simplex.{first_of, unpack}
+use Rattle.rules.specs.View.{is_ended, gathered_in}
 use Rattle.rules.specs.Trial.{trial}
 use Rattle.rules.specs.Accept.{accept}
 use Rattle.rules.specs.Refusals.{Verdict, check, answered}
@@ -12,20 +13,11 @@ use Rattle.rules.specs.declared.Phase.{Phase}
 use Rattle.rules.specs.declared.Phase.TheVariants.{Building, Reflecting, Expanding, Contracting, Shrinking, Probing, Ended}
 use Rattle.rules.specs.declared.Vertex.{Vertex}
 use Rattle.rules.specs.declared.Counts.{Counts}
+use Rattle.rules.specs.declared.Setup.{Setup}
 use Rattle.rules.specs.declared.Search.{Search}
 use Rattle.rules.specs.declared.Asked.{Asked}
 use Rattle.rules.specs.declared.Refusal.{Refusal}
 use Rattle.rules.specs.declared.Refusal.TheVariants.{SearchEnded, CostTooHigh, WrongNumber, NoReading, Damaged}
-
--- "search ended"
-abbrev pub is_ended : Phase → Bool
-is_ended (Building i) = false
-is_ended Reflecting = false
-is_ended (Expanding f) = false
-is_ended (Contracting side f) = false
-is_ended (Shrinking j) = false
-is_ended (Probing p) = false
-is_ended (Ended cause) = true
 
 -- not "a phase's vertex or probe number outside that phase's trials", nor a held cost above the largest
 abbrev pub sound_phase : ℕ → ℕ → Phase → Bool
@@ -37,29 +29,19 @@ sound_phase n builds (Shrinking j) = leb 1 j && leb j n
 sound_phase n builds (Probing p) = ltb p (2 * n)
 sound_phase n builds (Ended cause) = true
 
--- how many vertices the unfinished build or shrink has gathered
-abbrev pub gathered_in : Phase → ℕ
-gathered_in (Building i) = i
-gathered_in Reflecting = 0
-gathered_in (Expanding f) = 0
-gathered_in (Contracting side f) = 0
-gathered_in (Shrinking j) = j
-gathered_in (Probing p) = 0
-gathered_in (Ended cause) = 0
+-- how many vertices stand, after so many builds: "before the first build ends it is empty"
+abbrev pub standing_in : ℕ → ℕ → ℕ
+standing_in n builds = cond (eqb builds 0) 0 (n + 1)
 
--- the standing simplex: "before the first build ends it is empty"
+-- the standing simplex
 abbrev pub standing_of : Search → List Vertex
-standing_of s = cond (eqb s.counts.builds 0) [] (unpack (s.setup.n + 1) s.standing)
-
--- the gathered vertices
-abbrev pub gathered_of : Search → List Vertex
-gathered_of s = unpack (gathered_in s.phase) s.gathered
+standing_of s = unpack (standing_in s.setup.n s.counts.builds) s.standing
 
 -- not "out of cost order"
-unfoldable pub in_order : List Vertex → Bool
+unfoldable pub in_order : List ℕ → Bool
 in_order [] = true
-in_order (x ∷ []) = true
-in_order (x ∷ (y ∷ ys)) = leb x.cost y.cost && in_order (y ∷ ys)
+in_order (c ∷ []) = true
+in_order (c ∷ (d ∷ ds)) = leb c d && in_order (d ∷ ds)
 
 -- not "a held cost above 16,777,215"
 unfoldable pub all_costs : List ℕ → Bool
@@ -76,18 +58,23 @@ sound_rule (Size e) = true
 abbrev pub sound_counts : ℕ → Counts → Bool
 sound_counts b c = leb c.builds b && leb c.reflections b && leb c.expansions b && leb c.contractions b && leb c.shrinks b && leb c.probes b && leb c.unfinished b
 
--- none of the causes of refusal 12, in the order of its row
-unfoldable pub sound : Search → Bool
-sound s =
-    leb 1 s.setup.n && leb s.setup.n 8
-    && ltb s.readings s.setup.budget && sound_counts s.setup.budget s.counts && leb s.setup.budget max_budget
-    && sound_rule s.setup.rule && sound_phase s.setup.n s.counts.builds s.phase
-    && in_order (standing_of s) && in_order (gathered_of s)
-    && all_costs s.standing.costs && all_costs s.gathered.costs && leb s.best.cost max_cost
+-- none of the causes of refusal 12, in the order of its row, by what it reads: setup, phase, readings and counts, the costs of the standing
+-- and of the gathered places, the best cost
+unfoldable pub sound : Setup → Phase → ℕ → Counts → List ℕ → List ℕ → ℕ → Bool
+sound t phase readings c standing gathered best =
+    leb 1 t.n && leb t.n 8
+    && ltb readings t.budget && sound_counts t.budget c && leb t.budget max_budget
+    && sound_rule t.rule && sound_phase t.n c.builds phase
+    && in_order (take (standing_in t.n c.builds) standing) && in_order (take (gathered_in phase) gathered)
+    && all_costs standing && all_costs gathered && leb best max_cost
+
+-- the search s meets none of them
+abbrev pub intact : Search → Bool
+intact s = sound s.setup s.phase s.readings s.counts s.standing.costs s.gathered.costs s.best.cost
 
 -- refusal 12 begins with "search not ended": an ended search never meets it
 abbrev pub undamaged : Search → Bool
-undamaged s = is_ended s.phase || sound s
+undamaged s = is_ended s.phase || intact s
 
 -- ask: 12, 8
 unfoldable pub ask_verdict : Search → Verdict

@@ -6,9 +6,8 @@ use Rattle.std.specs.Float.Ieee.{of_bits, neg}
 use Rattle.rules.specs.Refusals.{Verdict}
 use Rattle.rules.specs.Binary64.{0ᶠ, 1ᶠ, 2ᶠ, 8ᶠ, farthest}
 use Rattle.rules.specs.Numbers.{usual}
-use Rattle.rules.specs.Accept.{run}
 use Rattle.rules.specs.Opening.{zero_axis, open_verdict, fresh}
-use Rattle.rules.specs.Examples.{½, 𝟏, 1¼, 1½, ¼, example_axis, Shows, asks, next}
+use Rattle.rules.specs.Examples.{½, 𝟏, 1¼, 1½, ¼, example_axis, Shows, asks, after_costs, next}
 use Rattle.rules.specs.declared.Rule.{Rule}
 use Rattle.rules.specs.declared.Axis.{Axis}
 use Rattle.rules.specs.declared.Coefficients.{Coefficients}
@@ -34,7 +33,7 @@ case_search start hi rule = fresh 2 (two_axes (case_axis start hi) (case_axis st
 
 -- the trial that `case_search` asks after the costs cs
 abbrev pub trial_after : Float → Float → Option Rule → List ℕ → Shows
-trial_after start hi rule cs = next (run (case_search start hi rule) cs)
+trial_after start hi rule cs = next (after_costs (case_search start hi rule) cs)
 
 -- one axis record, and zeros after it
 abbrev pub one_axis : List Axis
@@ -67,7 +66,7 @@ cases_given =
     ∷ trial_after 1ᶠ (bits 0x3ffc_0000_0000_0000) None (10 ∷ 20 ∷ 30 ∷ [])
     ∷ trial_after 1ᶠ (bits 0x3ffc_0000_0000_0000) None (10 ∷ 20 ∷ 30 ∷ 25 ∷ [])
     -- c is above hi by rounding, r is clamped to hi, and e, twice as far from c, lies below: it goes by the clamped r
-    ∷ next (run rounded_search (10 ∷ 40 ∷ 20 ∷ 30 ∷ [])) ∷ next (run rounded_search (10 ∷ 40 ∷ 20 ∷ 30 ∷ 5 ∷ []))
+    ∷ next (after_costs rounded_search (10 ∷ 40 ∷ 20 ∷ 30 ∷ [])) ∷ next (after_costs rounded_search (10 ∷ 40 ∷ 20 ∷ 30 ∷ 5 ∷ []))
     -- no rule named, spread 4: three equal costs meet it, and a round probes around the first reading: forward, back, next axis
     ∷ trial_after 2ᶠ 8ᶠ None (10 ∷ 10 ∷ 10 ∷ [])
     ∷ trial_after 2ᶠ 8ᶠ None (10 ∷ 10 ∷ 10 ∷ 10 ∷ [])
@@ -88,7 +87,7 @@ cases_given =
     ∷ trial_after 0ᶠ 8ᶠ (Some (Size (bits 1¼))) (30 ∷ 20 ∷ 10 ∷ [])
     ∷ trial_after 0ᶠ 8ᶠ (Some (Size (bits 1½))) (30 ∷ 20 ∷ 10 ∷ [])
     -- the program's example: with n = 1 the second row is never met
-    ∷ next program_search ∷ next (run program_search (4 ∷ [])) ∷ next (run program_search (4 ∷ 6 ∷ [])) ∷ next (run program_search (4 ∷ 6 ∷ 4 ∷ []))
+    ∷ next program_search ∷ next (after_costs program_search (4 ∷ [])) ∷ next (after_costs program_search (4 ∷ 6 ∷ [])) ∷ next (after_costs program_search (4 ∷ 6 ∷ 4 ∷ []))
     ∷ []
 
 -- what document 01 says of each case of `cases_given`, in its order

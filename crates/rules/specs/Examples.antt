@@ -1,5 +1,5 @@
 -- "Examples with two axes": P1 to P12 as one list, what the rules give beside what document 01 says.
-use Rattle.std.specs.Prelude.{Bool, true, false, List, [], ◌∷◌, ℕ, replicate, get_or, Float, Some}
+use Rattle.std.specs.Prelude.{Bool, true, false, List, [], ◌∷◌, map, ℕ, replicate, get_or, Float, Some}
 use Rattle.std.specs.Float.{binary64}
 use Rattle.std.specs.Float.Ieee.{of_bits, to_bits, neg}
 use Rattle.rules.specs.Binary64.{0ᶠ, 1ᶠ, 8ᶠ}
@@ -7,7 +7,7 @@ use Rattle.rules.specs.Numbers.{usual}
 use Rattle.rules.specs.Simplex.{place, unpack}
 use Rattle.rules.specs.Trial.{trial}
 use Rattle.rules.specs.Stop.{spread_met}
-use Rattle.rules.specs.Accept.{run}
+use Rattle.rules.specs.History.{told, run}
 use Rattle.rules.specs.Opening.{zero_axis, fresh}
 use Rattle.rules.specs.declared.Axis.{Axis}
 use Rattle.rules.specs.declared.Search.{Search}
@@ -56,6 +56,10 @@ pub data Shows : Type 0 where
 abbrev pub bits_at : List Float → ℕ → ℕ
 bits_at x a = to_bits binary64 (get_or x a 0ᶠ)
 
+-- the search after these costs were told
+abbrev pub after_costs : Search → List ℕ → Search
+after_costs s cs = run s (map told cs)
+
 -- the next trial
 abbrev pub next : Search → Shows
 next s = asks (bits_at (trial s) 0) (bits_at (trial s) 1)
@@ -66,7 +70,7 @@ stands_at v = stands (bits_at v.point 0) (bits_at v.point 1) v.cost
 
 -- the search after 30, 20 and 10 were told, and then these
 abbrev pub after_p1 : List ℕ → Search
-after_p1 cs = run (run (example_search 8ᶠ) (30 ∷ 20 ∷ 10 ∷ [])) cs
+after_p1 cs = after_costs (after_costs (example_search 8ᶠ) (30 ∷ 20 ∷ 10 ∷ [])) cs
 
 -- place i, from 0, after 30, 20, 10 and then these
 abbrev pub place_after : ℕ → List ℕ → Shows
@@ -80,7 +84,7 @@ spread_after e = meets (spread_met 2 e (unpack 3 (after_p1 []).standing))
 unfoldable pub given : List Shows
 given =
     -- P1: trials (0,0), (1,0), (0,1)
-    next (example_search 8ᶠ) ∷ next (run (example_search 8ᶠ) (30 ∷ [])) ∷ next (run (example_search 8ᶠ) (30 ∷ 20 ∷ []))
+    next (example_search 8ᶠ) ∷ next (after_costs (example_search 8ᶠ) (30 ∷ [])) ∷ next (after_costs (example_search 8ᶠ) (30 ∷ 20 ∷ []))
     -- P2: next trial (1,1)
     ∷ next (after_p1 [])
     -- P3: after 5 is told, expansion at (1.5,1.5); P4: 5 again takes (1,1)
@@ -96,7 +100,7 @@ given =
     -- P11: costs 10, 20, 30: spread 100 isn't met, 101 is
     ∷ spread_after 100 ∷ spread_after 101
     -- P12: hi 1.25 on both axes: the P3 trial is (1.25,1.25)
-    ∷ next (run (example_search (of_bits binary64 1¼)) (30 ∷ 20 ∷ 10 ∷ 5 ∷ []))
+    ∷ next (after_costs (example_search (of_bits binary64 1¼)) (30 ∷ 20 ∷ 10 ∷ 5 ∷ []))
     ∷ []
 
 -- what document 01 says of each example of `given`, in its order

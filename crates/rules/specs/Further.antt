@@ -1,10 +1,9 @@
 -- Worked cases of what a search carries and no trial shows at once: the movement where r is taken after e and at a shrink, the counts
--- after each kind of piece, the point that a build goes around, the best cost that refusal 12 tests.
-use Rattle.std.specs.Prelude.{List, [], ◌∷◌, ℕ, Some, None}
+-- after each kind of piece, the point that a build goes around, the held costs that refusal 12 tests.
+use Rattle.std.specs.Prelude.{List, [], ◌∷◌, ◌++◌, ℕ, ◌-◌, length, replicate, Some, None}
 use Rattle.rules.specs.Binary64.{2ᶠ, 8ᶠ}
-use Rattle.rules.specs.Accept.{run}
 use Rattle.rules.specs.Calls.{ask_verdict}
-use Rattle.rules.specs.Examples.{Shows, asks, bits_at, after_p1}
+use Rattle.rules.specs.Examples.{Shows, asks, bits_at, after_costs, after_p1}
 use Rattle.rules.specs.Cases.{bits, case_search, trial_after}
 use Rattle.rules.specs.Answers.{unread_search, refused_as}
 use Rattle.rules.specs.declared.Search.{Search}
@@ -20,11 +19,11 @@ pieces_of s = s.counts.builds ∷ s.counts.reflections ∷ s.counts.expansions �
 
 -- the point that the search of two axes, started at 2, builds around after the costs cs
 abbrev pub center_after : List ℕ → Shows
-center_after cs = let x = (run (case_search 2ᶠ 8ᶠ None) cs).center in asks (bits_at x 0) (bits_at x 1)
+center_after cs = let x = (after_costs (case_search 2ᶠ 8ᶠ None) cs).center in asks (bits_at x 0) (bits_at x 1)
 
 -- the search s with another best cost, which no call gives it
 abbrev pub with_best : ℕ → Search → Search
-with_best c s = record { setup = s.setup; phase = s.phase; standing = s.standing; gathered = s.gathered; center = s.center; readings = s.readings; best = record { point = s.best.point; cost = c }; counts = s.counts }
+with_best c s = record s { best = record s.best { cost = c } }
 
 -- the trials by the rules
 unfoldable pub trials_given : List Shows
@@ -64,10 +63,46 @@ pieces_stated =
     ∷ (1 ∷ 0 ∷ 0 ∷ 1 ∷ 0 ∷ []) ∷ (1 ∷ 0 ∷ 0 ∷ 1 ∷ 0 ∷ []) ∷ (1 ∷ 0 ∷ 0 ∷ 0 ∷ 1 ∷ [])
     ∷ []
 
--- the refusals of ask with the largest best cost, and with one above it, by the rules
-unfoldable pub best_given : List ℕ
-best_given = refused_as (ask_verdict (with_best 16777215 unread_search)) ∷ refused_as (ask_verdict (with_best 16777216 unread_search)) ∷ []
+-- the search s with other costs at its first standing places, which no call gives it; blank places follow
+abbrev pub with_standing : List ℕ → Search → Search
+with_standing cs s = record s { standing = record s.standing { costs = cs ++ replicate (9 - length cs) 0 } }
 
--- what the table says of both
-unfoldable pub best_stated : List ℕ
-best_stated = 0 ∷ 12 ∷ []
+-- the same at its first gathered places
+abbrev pub with_gathered : List ℕ → Search → Search
+with_gathered cs s = record s { gathered = record s.gathered { costs = cs ++ replicate (9 - length cs) 0 } }
+
+-- the search of two axes after a build, and amid one, two trials being told
+abbrev pub built_search : Search
+built_search = after_p1 []
+
+-- two trials of a first build are told
+abbrev pub half_built_search : Search
+half_built_search = after_costs unread_search (30 ∷ 20 ∷ [])
+
+-- the refusals of ask on searches that no call gives, by the rules
+unfoldable pub held_given : List ℕ
+held_given =
+    -- the largest best cost, and one above it
+    refused_as (ask_verdict (with_best 16777215 unread_search)) ∷ refused_as (ask_verdict (with_best 16777216 unread_search))
+    -- equal costs stand in order; places 1 and 2 do not, nor places 2 and 3; place 4 is none of the n + 1
+    ∷ refused_as (ask_verdict (with_standing (10 ∷ 10 ∷ 10 ∷ []) built_search)) ∷ refused_as (ask_verdict (with_standing (11 ∷ 10 ∷ 30 ∷ []) built_search))
+    ∷ refused_as (ask_verdict (with_standing (10 ∷ 20 ∷ 19 ∷ []) built_search)) ∷ refused_as (ask_verdict (with_standing (10 ∷ 20 ∷ 30 ∷ 29 ∷ []) built_search))
+    -- before the first build ends none stand; the two that are gathered are in order, and not the third place
+    ∷ refused_as (ask_verdict (with_standing (11 ∷ 10 ∷ []) unread_search))
+    ∷ refused_as (ask_verdict (with_gathered (20 ∷ 20 ∷ 19 ∷ []) half_built_search)) ∷ refused_as (ask_verdict (with_gathered (20 ∷ 19 ∷ []) half_built_search))
+    -- place 9 of both runs holds the largest cost, and one above it
+    ∷ refused_as (ask_verdict (with_standing (replicate 8 10 ++ 16777215 ∷ []) built_search)) ∷ refused_as (ask_verdict (with_standing (replicate 8 10 ++ 16777216 ∷ []) built_search))
+    ∷ refused_as (ask_verdict (with_gathered (replicate 8 20 ++ 16777215 ∷ []) built_search)) ∷ refused_as (ask_verdict (with_gathered (replicate 8 20 ++ 16777216 ∷ []) built_search))
+    ∷ []
+
+-- what the table says of each
+unfoldable pub held_stated : List ℕ
+held_stated =
+    0 ∷ 12
+    ∷ 0 ∷ 12
+    ∷ 12 ∷ 0
+    ∷ 0
+    ∷ 0 ∷ 12
+    ∷ 0 ∷ 12
+    ∷ 0 ∷ 12
+    ∷ []

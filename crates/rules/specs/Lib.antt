@@ -1,9 +1,12 @@
--- The rules of document 01, a file for each of its sections, in its order.
+-- The rules of document 01, each file after those that it uses.
 pub mod Binary64
 pub mod Numbers
 pub mod Simplex
+pub mod View
 pub mod Trial
+pub mod Count
 pub mod Stop
+pub mod Decide
 pub mod Accept
 pub mod Refusals
 pub mod Opening

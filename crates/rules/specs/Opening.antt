@@ -5,6 +5,7 @@ use Rattle.rules.specs.Binary64.{0ᶠ, 1ᶠ, 2ᶠ, 4ᶠ, 8ᶠ, farthest, ◌⊕�
 use Rattle.rules.specs.Simplex.{first_of, pack, blank}
 use Rattle.rules.specs.Numbers.{max_budget, max_spread}
 use Rattle.rules.specs.Trial.{no_axis}
+use Rattle.rules.specs.Count.{no_counts}
 use Rattle.rules.specs.Refusals.{Verdict, check}
 use Rattle.rules.specs.declared.Axis.{Axis}
 use Rattle.rules.specs.declared.Coefficients.{Coefficients}
@@ -15,7 +16,6 @@ use Rattle.rules.specs.declared.Phase.{Phase}
 use Rattle.rules.specs.declared.Phase.TheVariants.{Building, Ended}
 use Rattle.rules.specs.declared.Cause.TheVariants.{Budget}
 use Rattle.rules.specs.declared.Search.{Search}
-use Rattle.rules.specs.declared.Counts.{Counts}
 use Rattle.rules.specs.declared.Opened.{Opened}
 use Rattle.rules.specs.declared.Refusal.TheVariants.{AxisCount, OutOfRange, BadLimits, BadStep, BadCoefficient, BadThreshold, BadBudget}
 
@@ -74,10 +74,6 @@ open_verdict n axes rule c budget =
 -- an axis record of zeros
 abbrev pub zero_axis : Axis
 zero_axis = record { lo = 0ᶠ; hi = 0ᶠ; start = 0ᶠ; step = 0ᶠ }
-
--- all counts zero
-abbrev pub no_counts : Counts
-no_counts = record { builds = 0; reflections = 0; expansions = 0; contractions = 0; shrinks = 0; probes = 0; unfinished = 0 }
 
 -- a search with no reading, whose build goes around x
 abbrev pub unread : Setup → Phase → List Float → Search

@@ -1,8 +1,13 @@
 -- "Counts": the finished pieces, probes and open readings of a history, counted by the rules and apart from what a search carries.
-use Rattle.std.specs.Prelude.{◌≡◌, Bool, true, false, cond, not, ◌&&◌, List, [], ◌∷◌, ◌++◌, ℕ, ◌+◌, ◌*◌, ltb, eqb}
-use Rattle.rules.specs.Accept.{Piece, build, reflection, expansion, contraction, shrink, accept, run, f1, fn, wins}
+use Rattle.std.specs.Prelude.{◌≡◌, Bool, true, false, cond, not, ◌&&◌, List, [], ◌∷◌, ◌++◌, ℕ, ◌+◌, ◌*◌, leb, ltb, eqb}
+use Rattle.rules.specs.Count.{same}
+use Rattle.rules.specs.Decide.{f1, fn, fw}
+use Rattle.rules.specs.History.{Event, told, step, run}
 use Rattle.rules.specs.declared.Phase.{Phase}
 use Rattle.rules.specs.declared.Phase.TheVariants.{Building, Reflecting, Expanding, Contracting, Shrinking, Probing, Ended}
+use Rattle.rules.specs.declared.Side.TheVariants.{Outside, Inside}
+use Rattle.rules.specs.declared.Piece.{Piece}
+use Rattle.rules.specs.declared.Piece.TheVariants.{Build, Reflection, Expansion, Contraction, Shrink}
 use Rattle.rules.specs.declared.Counts.{Counts}
 use Rattle.rules.specs.declared.Search.{Search}
 
@@ -11,81 +16,77 @@ abbrev pub piece_if : Bool → Piece → List Piece
 piece_if true p = p ∷ []
 piece_if false p = []
 
--- the piece that the cost c finishes when it is told in each phase: a build or a shrink by its last trial, "reflections (r taken
--- by the second row), expansions (first row, either point taken), contractions (taken)"
-abbrev pub finishes : Phase → Search → ℕ → List Piece
-finishes (Building i) s c = piece_if (eqb i s.setup.n) build
-finishes Reflecting s c = piece_if (not (ltb c (f1 s)) && ltb c (fn s)) reflection
-finishes (Expanding f) s c = expansion ∷ []
-finishes (Contracting side f) s c = piece_if (wins side f c s) contraction
-finishes (Shrinking j) s c = piece_if (eqb j s.setup.n) shrink
-finishes (Probing p) s c = []
-finishes (Ended cause) s c = []
+-- the piece that the cost c ends when it is told in each phase, said apart from `decided`: a build or a shrink by its last trial,
+-- "reflections (r taken by the second row), expansions (first row, either point taken), contractions (taken)"
+abbrev pub ended_by : Phase → Search → ℕ → List Piece
+ended_by (Building i) s c = piece_if (eqb i s.setup.n) Build
+ended_by Reflecting s c = piece_if (not (ltb c (f1 s)) && ltb c (fn s)) Reflection
+ended_by (Expanding f) s c = Expansion ∷ []
+ended_by (Contracting Outside f) s c = piece_if (leb c f) Contraction
+ended_by (Contracting Inside f) s c = piece_if (ltb c (fw s)) Contraction
+ended_by (Shrinking j) s c = piece_if (eqb j s.setup.n) Shrink
+ended_by (Probing p) s c = []
+ended_by (Ended cause) s c = []
 
--- the pieces that the readings of h finish, in order
-unfoldable pub pieces : Search → List ℕ → List Piece
+-- the piece that an event finishes
+abbrev pub finishes : Search → Event → List Piece
+finishes s (told c) = ended_by s.phase s c
+
+-- the pieces that the events of h finish, in order
+unfoldable pub pieces : Search → List Event → List Piece
 pieces s [] = []
-pieces s (c ∷ cs) = finishes s.phase s c ++ pieces (accept s c) cs
-
--- a number for each kind of piece, to tell them apart by
-abbrev pub kind : Piece → ℕ
-kind build = 0
-kind reflection = 1
-kind expansion = 2
-kind contraction = 3
-kind shrink = 4
+pieces s (e ∷ es) = finishes s e ++ pieces (step s e) es
 
 -- how many pieces of a list are of the kind of p
 unfoldable pub count_of : Piece → List Piece → ℕ
 count_of p [] = 0
-count_of p (q ∷ qs) = cond (eqb (kind p) (kind q)) 1 0 + count_of p qs
+count_of p (q ∷ qs) = cond (same p q) 1 0 + count_of p qs
 
--- "each counts finished ones": those of one kind that the readings of h finish
-abbrev pub made : Piece → Search → List ℕ → ℕ
+-- "each counts finished ones": those of one kind that the events of h finish
+abbrev pub made : Piece → Search → List Event → ℕ
 made p o h = count_of p (pieces o h)
 
 -- "the other iterations are reflections, expansions and contractions"
-abbrev pub others : Search → List ℕ → ℕ
-others o h = made reflection o h + made expansion o h + made contraction o h
+abbrev pub others : Search → List Event → ℕ
+others o h = made Reflection o h + made Expansion o h + made Contraction o h
 
--- 1 for a probe's phase, else 0
-abbrev pub is_probe : Phase → ℕ
-is_probe (Building i) = 0
-is_probe Reflecting = 0
-is_probe (Expanding f) = 0
-is_probe (Contracting side f) = 0
-is_probe (Shrinking j) = 0
-is_probe (Probing p) = 1
-is_probe (Ended cause) = 0
+-- 1 for a probe's phase, else 0, said apart from `view`
+abbrev pub probe_in : Phase → ℕ
+probe_in (Probing p) = 1
+probe_in _ = 0
+
+-- 1 for an event that is a probe's reading, else 0
+abbrev pub probe_by : Search → Event → ℕ
+probe_by s (told c) = probe_in s.phase
 
 -- "Probes counts probe readings"
-unfoldable pub probes_in : Search → List ℕ → ℕ
+unfoldable pub probes_in : Search → List Event → ℕ
 probes_in s [] = 0
-probes_in s (c ∷ cs) = is_probe s.phase + probes_in (accept s c) cs
+probes_in s (e ∷ es) = probe_by s e + probes_in (step s e) es
 
 -- no piece is finished
 abbrev pub is_none : List Piece → Bool
 is_none [] = true
 is_none (p ∷ ps) = false
 
--- a reading is open: it finishes no piece, it is no probe, and it is not the first reading of all, k being those before it
+-- a reading is open: it finishes none of the pieces ps, it is no probe, and it is not the first reading of all, k being those before it
 abbrev pub is_open : List Piece → ℕ → ℕ → Bool
 is_open ps probe k = is_none ps && eqb probe 0 && not (eqb k 0)
 
 -- "Open is the readings told in the unfinished iteration or restart build; in the first build it leaves out the first reading":
--- after the readings of h, k being open before them
-unfoldable pub open_in : ℕ → Search → List ℕ → ℕ
+-- after the events of h, k being open before them
+unfoldable pub open_in : ℕ → Search → List Event → ℕ
 open_in k s [] = k
-open_in k s (c ∷ cs) = open_in (cond (is_open (finishes s.phase s c) (is_probe s.phase) s.readings) (k + 1) 0) (accept s c) cs
+open_in k s (e ∷ es) = open_in (cond (is_open (finishes s e) (probe_by s e) s.readings) (k + 1) 0) (step s e) es
 
 -- the right side of the readings equation: the first reading, and those of each finished piece, of probes and still open
 abbrev pub readings_by : ℕ → Counts → ℕ
 readings_by n c = 1 + n * c.builds + c.reflections + 2 * (c.expansions + c.contractions) + (n + 2) * c.shrinks + c.probes + c.unfinished
 
--- the reading c, told after h, ends a build or an iteration
-abbrev pub Ends : Search → List ℕ → ℕ → Type 0
-Ends o h c = finishes (run o h).phase (run o h) c ≡ [] → ⊥
+-- the event e, after h, ends a build or an iteration
+abbrev pub Ends : Search → List Event → Event → Type 0
+Ends o h e = finishes (run o h) e ≡ [] → ⊥
 
--- the reading c, told after h, ends a piece of the kind p
-abbrev pub EndsIn : Piece → Search → List ℕ → ℕ → Type 0
-EndsIn p o h c = finishes (run o h).phase (run o h) c ≡ p ∷ []
+-- the event e, after h, ends a piece of the kind p
+abbrev pub EndsIn : Piece → Search → List Event → Event → Type 0
+EndsIn p o h e = finishes (run o h) e ≡ p ∷ []

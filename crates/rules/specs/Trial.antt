@@ -8,7 +8,6 @@ use Rattle.rules.specs.declared.Setup.{Setup}
 use Rattle.rules.specs.declared.Search.{Search}
 use Rattle.rules.specs.declared.Phase.{Phase}
 use Rattle.rules.specs.declared.Phase.TheVariants.{Building, Reflecting, Expanding, Contracting, Shrinking, Probing, Ended}
-use Rattle.rules.specs.declared.Side.{Side}
 use Rattle.rules.specs.declared.Side.TheVariants.{Outside, Inside}
 
 -- what a read past the eighth record would give; no rule reads there
@@ -40,54 +39,57 @@ centroid n ps a = sum_to (entry ps a) (n - 1) ⊘ float n
 abbrev pub move : Float → Float → Float → Float → Float
 move from k to back = from ⊕ k ⊗ (to ⊖ back)
 
--- "Reflected r: c + α·(c − w)"
-unfoldable pub reflected : Setup → List Float → ℕ → Float
-reflected t ps a = let c = centroid t.n ps a in clamped t a (move c t.coefficients.alpha c (entry ps a t.n))
+-- "c + α·(c − w)"
+abbrev pub away : Setup → List Float → ℕ → Float
+away t ps a = let c = centroid t.n ps a in move c t.coefficients.alpha c (entry ps a t.n)
 
--- "ask e = c + χ·(r − c)", where "r is the clamped point"
-unfoldable pub expanded : Setup → List Float → ℕ → Float
-expanded t ps a = let c = centroid t.n ps a in clamped t a (move c t.coefficients.chi (reflected t ps a) c)
+-- "Reflected r", of which "r is the clamped point"
+abbrev pub reflected : Setup → List Float → ℕ → Float
+reflected t ps a = clamped t a (away t ps a)
 
--- "outside point c + β·(r − c)" and "inside point c + β·(w − c)"
-unfoldable pub contracted : Setup → List Float → Side → ℕ → Float
-contracted t ps Outside a = let c = centroid t.n ps a in clamped t a (move c t.coefficients.beta (reflected t ps a) c)
-contracted t ps Inside a = let c = centroid t.n ps a in clamped t a (move c t.coefficients.beta (entry ps a t.n) c)
+-- "c + χ·(r − c)" of e and "c + β·(r − c)" of the outside point, k being χ or β
+abbrev pub toward_reflected : Setup → List Float → Float → ℕ → Float
+toward_reflected t ps k a = let c = centroid t.n ps a in move c k (reflected t ps a) c
 
--- "A shrink .. asks x1 + σ·(xi − x1)", for the point at place j from 0
-unfoldable pub shrunk : Setup → List Float → ℕ → ℕ → Float
-shrunk t ps j a = clamped t a (move (entry ps a 0) t.coefficients.sigma (entry ps a j) (entry ps a 0))
+-- "c + β·(w − c)", the inside point
+abbrev pub toward_worst : Setup → List Float → ℕ → Float
+toward_worst t ps a = let c = centroid t.n ps a in move c t.coefficients.beta (entry ps a t.n) c
+
+-- "x1 + σ·(xi − x1)", for the point at place j from 0
+abbrev pub shrunk : Setup → List Float → ℕ → ℕ → Float
+shrunk t ps j a = move (entry ps a 0) t.coefficients.sigma (entry ps a j) (entry ps a 0)
 
 -- "u = start + step; take u if u ≤ hi, else .. start − step", around the coordinate v
 abbrev pub stepped : Axis → Float → Float
 stepped x v = cond (v ⊕ x.step ≤ᶠ x.hi) (v ⊕ x.step) (v ⊖ x.step)
 
--- trial i of a build around x: "the start point, then for i = 1 to n that point with axis i changed"
-unfoldable pub built : Setup → List Float → ℕ → ℕ → Float
-built t x i a = let v = get_or x a nan in clamped t a (cond (eqb i (suc a)) (stepped (axis t a) v) v)
+-- trial i of a build around a point with the coordinate v on axis a: "the start point, then for i = 1 to n that point with axis i changed"
+abbrev pub build_step : Axis → Float → ℕ → ℕ → Float
+build_step x v i a = cond (eqb i (suc a)) (stepped x v) v
 
 -- "b + d, then .. b − d, with d = step·0.0009765625" on the axis of probe p, the coordinate v itself on every other axis a
 abbrev pub probe_step : Axis → Float → ℕ → ℕ → Float
 probe_step x v p a = let d = x.step ⊗ probe_factor in cond (eqb (p / 2) a) (cond (eqb (p % 2) 0) (v ⊕ d) (v ⊖ d)) v
 
--- probe p, from 0, of a round at b: "for each axis, the clamp of b + d, then of b − d"
-unfoldable pub probed : Setup → List Float → ℕ → ℕ → Float
-probed t b p a = clamped t a (probe_step (axis t a) (get_or b a nan) p a)
+-- coordinate a of the point that the search s is after in each phase, before the clamp; an ended search is after none
+abbrev pub target : Search → Phase → ℕ → Float
+target s (Building i) a = build_step (axis s.setup a) (get_or s.center a nan) i a
+target s Reflecting a = away s.setup s.standing.points a
+target s (Expanding f) a = toward_reflected s.setup s.standing.points s.setup.coefficients.chi a
+target s (Contracting Outside f) a = toward_reflected s.setup s.standing.points s.setup.coefficients.beta a
+target s (Contracting Inside f) a = toward_worst s.setup s.standing.points a
+target s (Shrinking j) a = shrunk s.setup s.standing.points j a
+target s (Probing p) a = probe_step (axis s.setup a) (get_or s.best.point a nan) p a
+target s (Ended cause) a = nan
 
--- coordinate a of the trial of each phase, by the standing points ps, the point x that a build goes around and the best point b;
--- an ended search has none
-abbrev pub coordinate : Setup → List Float → List Float → List Float → Phase → ℕ → Float
-coordinate t ps x b (Building i) a = built t x i a
-coordinate t ps x b Reflecting a = reflected t ps a
-coordinate t ps x b (Expanding f) a = expanded t ps a
-coordinate t ps x b (Contracting side f) a = contracted t ps side a
-coordinate t ps x b (Shrinking j) a = shrunk t ps j a
-coordinate t ps x b (Probing p) a = probed t b p a
-coordinate t ps x b (Ended cause) a = nan
-
--- coordinate a of the trial that the search s would ask in phase p
+-- coordinate a of the trial that it would ask there: "Every trial is clamped axis by axis"
 abbrev pub asked : Search → Phase → ℕ → Float
-asked s p a = coordinate s.setup s.standing.points s.center s.best.point p a
+asked s p a = clamped s.setup a (target s p a)
+
+-- the point that it would ask there
+abbrev pub point_in : Phase → Search → List Float
+point_in p s = point s.setup.n (asked s p)
 
 -- the trial: "the point that the rules ask"
 unfoldable pub trial : Search → List Float
-trial s = point s.setup.n (asked s s.phase)
+trial s = point_in s.phase s

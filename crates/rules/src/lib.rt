@@ -89,6 +89,63 @@ pub enum Phase {
     Ended(Cause),
 }
 
+// What a phase is, apart from its own trial and its own row of the table. What treats most phases alike asks this.
+#[derive(Clone, Copy)]
+pub enum View {
+    // trial i of a build
+    Builds(usize),
+    // an iteration, whose shrink has gathered so many vertices
+    Iterates(usize),
+    // probe p of a round
+    Probes(usize),
+    // no trial is asked any more
+    Over(Cause),
+}
+
+// A build, or an iteration by the row of the table that ends it: what the counts count.
+#[derive(Clone, Copy)]
+pub enum Piece {
+    Build,
+    Reflection,
+    Expansion,
+    Contraction,
+    Shrink,
+}
+
+// Who enters the simplex when a point is taken.
+#[derive(Clone, Copy)]
+pub enum Newcomer {
+    // the trial told just now
+    Latest,
+    // r, told before it at this cost
+    Reflected(u64),
+}
+
+// What is gathered where a piece or a probe round goes on.
+#[derive(Clone, Copy)]
+pub enum Keeping {
+    // nothing more: a cost that is needed yet stands in the next phase
+    Nothing,
+    // the trial, among the vertices gathered before: a build or a shrink that is not at its end
+    Joined,
+    // x1 alone: a shrink begins
+    First,
+}
+
+// What a reading decides, by the table.
+#[derive(Clone, Copy)]
+pub enum Decision {
+    // the piece or the probe round goes on, or the search has settled: what is gathered, and the next phase
+    Go(Keeping, Phase),
+    // the newcomer replaces w, which ends this piece: it is counted, the rule is tested, nothing is gathered
+    Take(Piece, Newcomer),
+    // the gathered vertices stand, the trial among them, which ends a build or a shrink: it is counted, the rule is tested, nothing
+    // is gathered
+    Stand(Piece),
+    // a probe was lower: a build goes around it, from trial 1 on, with the probe gathered
+    Restart,
+}
+
 // A point with its cost. Coordinates past the axis count are 0.
 #[derive(Clone, Copy, Default)]
 pub struct Vertex {

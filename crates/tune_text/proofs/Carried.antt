@@ -13,9 +13,9 @@ use Rattle.rules.specs.Numbers.{max_cost, usual}
 use Rattle.rules.specs.Refusals.{Verdict, number_of, check}
 use Rattle.rules.specs.Opening.{all_in_range, in_limits, in_step, axes_checks, in_coefficients, in_threshold, open_verdict, opening}
 use Rattle.rules.specs.Trial.{no_axis, trial}
-use Rattle.rules.specs.Accept.{run}
-use Rattle.rules.specs.Calls.{is_ended, undamaged, tell_verdict, asking, telling, showing}
-use Rattle.rules.specs.History.{tell, after1, after, history, reading}
+use Rattle.rules.specs.View.{is_ended}
+use Rattle.rules.specs.Calls.{undamaged, tell_verdict, asking, telling, showing}
+use Rattle.rules.specs.History.{Event, tell, after1, after, run, costs_in, history, reading}
 use Rattle.rules.specs.Claims.{Claims}
 use Rattle.rules.specs.declared.Axis.{Axis}
 use Rattle.rules.specs.declared.Asked.{Asked}
@@ -136,12 +136,16 @@ module _ (p : Progress) (c : Carried p) where
   abbrev pub begun : Search
   begun = (opening_of p.request).search
 
+  -- the history of the calls
+  abbrev pub told_so_far : List Event
+  told_so_far = history begun c.calls
+
   -- the costs that were told
   abbrev pub costs : List ℕ
-  costs = history begun c.calls
+  costs = costs_in told_so_far
 
   -- the rules' claim holds of the search that is carried
-  pub claimed : Claims begun costs p.search
+  pub claimed : Claims begun told_so_far p.search
   claimed =
       rw c.made (claim p.request.n p.request.axes (Some (Spread p.request.spread)) usual p.request.budget c.accepted c.calls)
 
@@ -155,7 +159,7 @@ module _ (p : Progress) (c : Carried p) where
   pub only_too_high : is_ended p.search.phase ≡ false
       → (a : Asked) × (asking p.search ≡ Ok a) × ((cost : ℕ) → (telling p.search a.number cost).verdict ≡ check (leb cost max_cost) CostTooHigh (Ok tt))
   only_too_high live =
-      let a : Asked = record { number = length costs + 1; point = trial (run begun costs) } in
+      let a : Asked = record { number = length costs + 1; point = trial (run begun told_so_far) } in
       let due : length costs + 1 ≡ p.search.readings + 1 = ap (λ (m : ℕ). m + 1) (sym claimed.readings) in
       (a, claimed.asks live, λ cost. rw due (tell_next p.search sound live cost))
 
@@ -167,7 +171,7 @@ module _ (p : Progress) (c : Carried p) where
     end_unread p.search,
     λ h.
         let b = claimed.best (omega (arith, claimed.readings)) in
-        (reading begun costs b.0, b.2, end_shown p.search (reading begun costs b.0) h b.2),
+        (reading begun told_so_far b.0, b.2, end_shown p.search (reading begun told_so_far b.0) h b.2),
   )
 
 -- ---- the opening

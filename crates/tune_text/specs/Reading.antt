@@ -5,7 +5,8 @@ use Rattle.std.specs.Float.Ieee.{of_bits}
 use Rattle.rules.specs.Numbers.{usual}
 use Rattle.rules.specs.Refusals.{Verdict, number_of}
 use Rattle.rules.specs.Opening.{zero_axis, closed, opening}
-use Rattle.rules.specs.Calls.{asking, telling, showing, is_ended}
+use Rattle.rules.specs.View.{is_ended}
+use Rattle.rules.specs.Calls.{asking, telling, showing}
 use Rattle.rules.specs.declared.Axis.{Axis}
 use Rattle.rules.specs.declared.Asked.{Asked}
 use Rattle.rules.specs.declared.Cause.{Cause}

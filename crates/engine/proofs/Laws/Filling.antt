@@ -1,15 +1,16 @@
 -- Laws on arrays that a loop fills place by place. Assumes nothing.
-use mathlib.Core.Path.{◌≡◌}
+use mathlib.Core.Path.{◌≡◌, refl}
 use mathlib.Core.List.{List}
-use Prim.Native.Nat.{ℕ, suc, ◌+◌, ◌-◌, ◌<◌}
+use Prim.Native.Nat.{ℕ, suc, ◌+◌, ◌-◌, ◌≤◌, ◌<◌}
 use native.Mathlib.Numerals.{add-one}
 use native.Mathlib.Omega.{arith}
-use lib.ListN.{replicate, set}
+use lib.ListN.{get_or, replicate, set}
 use lib.Seq.{set_at, append_snoc}
-use lib.Ieee.{Float}
-use Rattle.rules.specs.Binary64.{0ᶠ}
+use lib.Ieee.{Float, nan}
+use Rattle.rules.specs.Binary64.{0ᶠ, ◌⊕◌}
 use Rattle.rules.specs.Simplex.{up_to, point}
-use Rattle.rules.proofs.Laws.Lists.{length_up_to}
+use Rattle.rules.specs.Trial.{entry, sum_to}
+use Rattle.rules.proofs.Laws.Lists.{length_up_to, get_or_point}
 
 -- the next coordinate is stored over the first that is still 0
 pub point_more : (f : ℕ → Float) (j : ℕ) (xs : List Float) (x : Float) → j < 8 → xs ≡ point j f → x ≡ f j → set xs j x ≡ point (j + 1) f
@@ -17,3 +18,12 @@ unfolding up_to
 point_more f j xs x h p e =
     let m : 8 - j ≡ suc (8 - suc j) = omega arith in
     rw (p, e, add-one, m, set_at (up_to f j) 0ᶠ (replicate (8 - suc j) 0ᶠ) (f j) j (length_up_to f j), append_snoc)
+
+-- where sum has the sums of places 1 to i, out with place i + 1 added to them has those of one place more
+pub sum_more : (ps sum out : List Float) (i : ℕ) → out ≡ point 8 (λ k. get_or sum k nan ⊕ entry ps k i) → 1 ≤ i
+    → ((a : ℕ) → a < 8 → get_or sum a nan ≡ sum_to (entry ps a) (i - 1)) → (a : ℕ) → a < 8 → get_or out a nan ≡ sum_to (entry ps a) (i + 1 - 1)
+unfolding sum_to
+sum_more ps sum out i p low e a l =
+    let next : i + 1 - 1 ≡ suc (i - 1) = omega arith in
+    let same : suc (i - 1) ≡ i = omega arith in
+    rw (p, get_or_point 8 (λ k. get_or sum k nan ⊕ entry ps k i) a l, next, e a l, same) refl

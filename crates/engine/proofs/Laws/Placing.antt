@@ -1,12 +1,13 @@
 -- Laws on the places of a simplex: blank ones after the first k, and a newcomer among the first k. Assumes nothing.
 use mathlib.Core.Path.{◌≡◌, refl, sym, ap, ◌∙◌, subst, subst⁻¹}
+use mathlib.Core.Bool.{true}
 use mathlib.Core.List.Memᴰ
 use mathlib.Core.List.{List, [], ◌∷◌, ◌++◌, map, map-append, append-nil, append_assoc, Memᴰ}
 use mathlib.Core.Logic.{⊎_elim}
 use Prim.Native.Nat.{ℕ, zero, suc, ◌+◌, ◌-◌, ◌*◌, ◌≤◌, ◌<◌}
 use native.Mathlib.Numerals.{add-one}
 use native.Mathlib.Omega.{arith}
-use lib.ListN.{length, take, drop, set, replicate, length-append, length-drop, length-map, drop_of_length-le, get_or, get_or-eq_default, take-append-drop, replicate-append-replicate}
+use lib.ListN.{length, take, drop, set, replicate, length-append, length-drop, length-map, drop_of_length-le, get_or, take-append-drop, replicate-append-replicate}
 use lib.Seq.{paste, paste-zero, paste-suc, take_all, take_at, drop_at, take-suc, drop-cons, take-append-le, take-take, length-take-le}
 use lib.Ieee.{Float}
 use borrow.Rule.Slice.PartMut.{put_mid, mid_of}
@@ -15,12 +16,13 @@ use Rattle.rules.specs.Binary64.{0ᶠ}
 use Rattle.rules.specs.declared.Simplex.{Simplex}
 use Rattle.rules.specs.declared.Vertex.{Vertex}
 use Rattle.rules.specs.Numbers.{max_cost}
+use Rattle.rules.specs.Calls.{all_costs}
 use Rattle.rules.specs.Simplex.{up_to, blank, cost_of, flat, store, pack, place, unpack, insert}
-use Rattle.std.proofs.lemmas.Bool.{cases_lt}
-use Rattle.rules.proofs.Laws.Lists.{length_up_to, get_or_up_to, mem_get_or}
-use Rattle.rules.proofs.Laws.Places.{Whole, flat_append, flat_unpack, costs_unpack, unpack_pack, cost_pack}
+use Rattle.std.proofs.lemmas.Bool.Decides.{nat_tests}
+use Rattle.rules.proofs.Laws.Lists.{length_up_to, get_or_up_to}
+use Rattle.rules.proofs.Laws.Places.{Whole, flat_append, flat_unpack, costs_unpack, costs_pack, unpack_pack}
 use Rattle.rules.proofs.Laws.Order.{insert_after, insert_before, mem_insert}
-use Rattle.engine.specs.Places.{put_at, Clean, Holds, Capped}
+use Rattle.engine.specs.Places.{put_at, Clean, Holds}
 
 -- ---- blank places
 
@@ -197,15 +199,19 @@ pub insert_none : (v : Vertex) (s : Simplex) → insert v (unpack 0 s) ≡ v ∷
 unfolding insert unpack up_to
 insert_none v s = refl
 
+-- a cost of costs in range is in range, and so is what is read past their end
+pub cost_low : (cs : List ℕ) → all_costs cs ≡ true → (i : ℕ) → get_or cs i 0 ≤ max_cost
+unfolding all_costs
+cost_low [] h i = omega arith
+cost_low (c ∷ cs) h zero = grind (arith, nat_tests)
+cost_low (c ∷ cs) h (suc i) = cost_low cs (grind (arith, nat_tests)) i
+
 -- the costs stay in range when a newcomer with a cost in range is put among the first n vertices
-pub capped_inserted : (s : Simplex) (n : ℕ) (v : Vertex) → v.cost ≤ max_cost → Capped s.costs → Capped (pack (insert v (unpack n s))).costs
-capped_inserted s n v h c i =
-    let vs = insert v (unpack n s) in
-    rw (cost_pack vs i)
-    (⊎_elim
-    (λ l. ⊎_elim
+pub low_inserted : (s : Simplex) (n : ℕ) (v : Vertex) → v.cost ≤ max_cost → all_costs s.costs ≡ true → all_costs (pack (insert v (unpack n s))).costs ≡ true
+low_inserted s n v h c =
+    costs_pack (insert v (unpack n s))
+    (λ w m.
+    ⊎_elim
     (λ e. rw e h)
-    (each_unpack (λ (w : Vertex). w.cost ≤ max_cost) n s (λ (j : ℕ) k. c j) _)
-    (mem_insert v (unpack n s) (mem_get_or vs i blank l)))
-    (λ l. rw (get_or-eq_default vs blank {n = i} l) (omega arith))
-    (cases_lt i (length vs)))
+    (each_unpack (λ (x : Vertex). x.cost ≤ max_cost) n s (λ (j : ℕ) k. cost_low s.costs c j) w)
+    (mem_insert v (unpack n s) m))

@@ -1,147 +1,122 @@
 -- Laws of the test for a sound search: how the code comes to its outcome, and what an accepted call may take for granted. Assumes nothing.
-use mathlib.Core.Path.{◌≡◌, sym, ap, ◌∙◌}
+use mathlib.Core.Path.{◌≡◌, refl, sym}
 use mathlib.Core.Bool.{true, false, not, and-eq-true_iff}
 use mathlib.Core.List.{List, [], ◌∷◌}
-use Prim.Native.Nat.{ℕ, zero, suc, suc-le-suc, ◌+◌, ◌*◌, ◌≤◌, ◌<◌}
+use Prim.Native.Nat.{ℕ, zero, suc, suc-le-suc, ◌≤◌, ◌<◌}
+use native.Mathlib.Numerals.{add-one}
 use native.Mathlib.Omega.{arith}
-use lib.ListN.{length, get_or, take}
+use lib.ListN.{length, get_or}
 use lib.Dec.{leb}
 use borrow.Author.Tests.{leb-true, ltb-true}
 use Rattle.std.specs.Prelude.{Some, Ok}
 use Rattle.std.specs.List.{IsAllAdjacentAnswer}
 use Rattle.std.specs.Ordering.{nat_cmp, is_le, is_some_and}
-use Rattle.std.proofs.lemmas.Bool.{false_from_ne_true, not-true}
-use Rattle.std.proofs.lemmas.List.{get_or-take, length-take-le}
+use Rattle.std.proofs.lemmas.Bool.{false_from_ne_true, not-true, le-leb}
 use Rattle.std.proofs.lemmas.List.Sorted.{non_decreasing_from_is_sorted}
+use Rattle.std.proofs.lemmas.Bool.Decides.{nat_tests}
 use Rattle.rules.specs.Numbers.{max_cost, max_budget}
-use Rattle.rules.specs.Simplex.{blank, cost_of, place, unpack, Ordered}
 use Rattle.rules.specs.Refusals.{Verdict, check}
-use Rattle.rules.specs.Calls.{is_ended, sound_phase, in_order, all_costs, sound, undamaged, ask_verdict, tell_verdict}
-use Rattle.rules.specs.declared.Simplex.{Simplex}
-use Rattle.rules.specs.declared.Vertex.{Vertex}
+use Rattle.rules.specs.Calls.{sound_phase, sound_counts, in_order, sound, intact, undamaged, ask_verdict, tell_verdict}
+use Rattle.rules.specs.View.{is_ended, gathered_in}
 use Rattle.rules.specs.declared.Search.{Search}
 use Rattle.rules.specs.declared.Phase.{Phase}
-use Rattle.rules.specs.declared.Phase.TheVariants.{Building, Reflecting, Expanding, Contracting, Shrinking, Probing, Ended}
+use Rattle.rules.specs.declared.Phase.TheVariants.{Building, Shrinking}
+use Rattle.rules.specs.declared.Counts.{Counts}
 use Rattle.rules.specs.declared.Refusal.TheVariants.{SearchEnded, Damaged}
-use Rattle.rules.proofs.Laws.Lists.{get_or_up_to}
 use Rattle.rules.proofs.Laws.Openings.{check_iff}
-use Rattle.rules.proofs.Laws.Order.{in_order_lem, from_in_order, ordered_at}
-use Rattle.engine.specs.Places.{Capped}
-use Rattle.engine.specs.Ready.{Fits, Askable, Ready}
-use Rattle.engine.proofs.Laws.Placing.{length_unpack}
+use Rattle.engine.specs.Ready.{Askable, Ready}
 
--- ---- costs in range
+-- ---- costs in order
 
--- costs that pass the test for the costs are in range at each place
-pub capped_all : (cs : List ℕ) → all_costs cs ≡ true → Capped cs
-unfolding all_costs
-capped_all [] h i = omega arith
-capped_all (c ∷ cs) h zero = leb-true c max_cost ((and-eq-true_iff (leb c max_cost) (all_costs cs)).0 h).0
-capped_all (c ∷ cs) h (suc i) = capped_all cs ((and-eq-true_iff (leb c max_cost) (all_costs cs)).0 h).1 i
+-- costs none of which is lower than the one before it pass the test for the order
+stepwise : (cs : List ℕ) → ((k : ℕ) → suc k < length cs → get_or cs k 0 ≤ get_or cs (suc k) 0) → in_order cs ≡ true
+unfolding in_order
+stepwise [] h = refl
+stepwise (c ∷ []) h = refl
+stepwise (c ∷ d ∷ ds) h = rw (le-leb c d (h 0 (omega arith)), stepwise (d ∷ ds) (λ k l. h (suc k) (suc-le-suc l)))
 
--- ---- places in cost order
+-- of costs that pass it none is lower than the one before it
+steps : (cs : List ℕ) → in_order cs ≡ true → (k : ℕ) → suc k < length cs → get_or cs k 0 ≤ get_or cs (suc k) 0
+unfolding in_order
+steps [] h k l = absurd (omega arith)
+steps (c ∷ []) h k l = absurd (omega arith)
+steps (c ∷ d ∷ ds) h zero l = grind (arith, nat_tests)
+steps (c ∷ d ∷ ds) h (suc k) l = steps (d ∷ ds) (grind (arith, nat_tests)) k (omega arith)
 
--- vertices none of which is cheaper than the one before it are in order
-stepwise : (vs : List Vertex) → ((k : ℕ) → suc k < length vs → (get_or vs k blank).cost ≤ (get_or vs (suc k) blank).cost) → Ordered vs
-unfolding Ordered
-stepwise [] h = tt
-stepwise (x ∷ []) h = (tt, tt)
-stepwise (x ∷ y ∷ ys) h = (h 0 (omega arith), stepwise (y ∷ ys) (λ k l. h (suc k) (suc-le-suc l)))
+-- where the library's test passes they are in order
+pub in_order_if : (cs : List ℕ) → IsAllAdjacentAnswer (λ x y b. is_some_and is_le (Some (nat_cmp x y)) ≡ b) cs true → in_order cs ≡ true
+in_order_if cs a = let rises = non_decreasing_from_is_sorted cs true a in stepwise cs (λ k l. rises k (suc k) 0 (omega arith) l)
 
-module _ (s : Simplex) (m : ℕ) where
-  -- the cost of vertex k of the first m places is the simplex's cost k
-  cost_at : (k : ℕ) → k < m → (get_or (unpack m s) k blank).cost ≡ get_or (take m s.costs) k 0
-  unfolding unpack
-  cost_at k l = ap cost_of (get_or_up_to (place s) k m blank l) ∙ sym (get_or-take m s.costs k 0 l)
-
-  -- where the library's test of the first m costs passes, the vertices of the first m places are in order
-  pub in_order_if : m ≤ length s.costs → IsAllAdjacentAnswer (λ x y b. is_some_and is_le (Some (nat_cmp x y)) ≡ b) (take m s.costs) true → in_order (unpack m s) ≡ true
-  in_order_if h a =
-      let rises = non_decreasing_from_is_sorted (take m s.costs) true a in
-      in_order_lem (unpack m s)
-      (stepwise (unpack m s)
-      (λ k l.
-      let u : suc k < m = omega (arith, length_unpack m s) in
-      rw (cost_at k (omega arith), cost_at (suc k) u) (rises k (suc k) 0 (omega arith) (simp length-take-le (omega arith)))))
-
-  -- else they are not
-  pub in_order_not : m ≤ length s.costs → IsAllAdjacentAnswer (λ x y b. is_some_and is_le (Some (nat_cmp x y)) ≡ b) (take m s.costs) false → in_order (unpack m s) ≡ false
-  in_order_not h a =
-      let f = non_decreasing_from_is_sorted (take m s.costs) false a in
-      let u : f.0 + 1 < m = simp length-take-le at f.1 in
-      false_from_ne_true (in_order (unpack m s))
-      (λ e.
-      let o = ordered_at (unpack m s) f.0 (f.0 + 1) (from_in_order (unpack m s) e) (omega arith) (omega (arith, length_unpack m s)) in
-      omega (arith, o, cost_at f.0 (omega arith), cost_at (f.0 + 1) u, f.2 0))
+-- else they are not
+pub in_order_not : (cs : List ℕ) → IsAllAdjacentAnswer (λ x y b. is_some_and is_le (Some (nat_cmp x y)) ≡ b) cs false → in_order cs ≡ false
+in_order_not cs a =
+    let f = non_decreasing_from_is_sorted cs false a in
+    false_from_ne_true (in_order cs) (λ e. let s = rw (← add-one f.0) at (steps cs e f.0 (omega (arith, f.1))) in omega (arith, s, f.2 0))
 
 -- the two answers of the library's test
 pub ruleset orders = (in_order_if, in_order_not)
 
 -- ---- what the test for a sound search tells
 
--- a sound phase fits
-phase_fits : (n builds : ℕ) (p : Phase) → sound_phase n builds p ≡ true → Fits n p
-phase_fits n builds (Building i) h = leb-true i n ((and-eq-true_iff (leb i n) _).0 h).0
-phase_fits n builds Reflecting h = tt
-phase_fits n builds (Expanding f) h = leb-true f max_cost h
-phase_fits n builds (Contracting side f) h = leb-true f max_cost h
-phase_fits n builds (Shrinking j) h = let k = (and-eq-true_iff (leb 1 j) (leb j n)).0 h in (leb-true 1 j k.0, leb-true j n k.1)
-phase_fits n builds (Probing p) h = ltb-true p (2 * n) h
-phase_fits n builds (Ended cause) h = tt
+-- counts that are sound by a budget are sound by the largest one
+counts_most : (b : ℕ) (c : Counts) → sound_counts b c ≡ true → b ≤ max_budget → sound_counts max_budget c ≡ true
+counts_most b c h l = grind (arith, nat_tests)
 
-module _ (s : Search) (h : sound s ≡ true) where
-  -- a sound search has what every step needs
+-- a sound phase has gathered no more vertices than there are axes
+gathered_most : (n builds : ℕ) (p : Phase) → sound_phase n builds p ≡ true → gathered_in p ≤ n
+gathered_most n builds (Building i) h = leb-true i n ((and-eq-true_iff (leb i n) _).0 h).0
+gathered_most n builds (Shrinking j) h = leb-true j n ((and-eq-true_iff (leb 1 j) (leb j n)).0 h).1
+gathered_most n builds _ h = omega arith
+
+module _ (s : Search) (h : (intact s ≡ true) × (is_ended s.phase ≡ false)) where
+  -- an intact search that has not ended has what every step needs
   pub ready : Ready s
   unfolding sound
   ready =
-      let k = simp and-eq-true_iff at h in
+      let k = simp and-eq-true_iff at h.0 in
+      let fit : sound_counts s.setup.budget s.counts ≡ true = search in
+      let much : s.setup.budget ≤ max_budget = omega (arith, leb-true) in
       record {
         low = omega (arith, leb-true);
         high = omega (arith, leb-true);
         rule = search;
-        counts = omega (arith, leb-true);
-        standing = capped_all s.standing.costs search;
-        gathered = capped_all s.gathered.costs search;
+        phase = search;
+        live = h.1;
+        counts = counts_most s.setup.budget s.counts fit much;
+        standing = search;
+        gathered = search;
       }
 
-  -- the phase of a sound search fits
-  pub fits : Fits s.setup.n s.phase
-  unfolding sound
-  fits = let k = simp and-eq-true_iff at h in phase_fits s.setup.n s.counts.builds s.phase search
-
-  -- a sound search has fewer readings than the largest budget
+  -- it has fewer readings than the largest budget
   pub below : s.readings < max_budget
   unfolding sound
-  below = let k = simp and-eq-true_iff at h in omega (arith, leb-true, ltb-true)
+  below = let k = simp and-eq-true_iff at h.0 in omega (arith, leb-true, ltb-true)
 
--- a search that is refused neither as damaged nor as ended is sound
-unrefused : (s : Search) (v : Verdict) → check (undamaged s) Damaged (check (not (is_ended s.phase)) SearchEnded v) ≡ Ok tt → sound s ≡ true
-unrefused s v h = let k = simp check_iff at h in rw (not-true (is_ended s.phase) k.1.0) at k.0
+-- a search that is ready can be asked for its own trial, and for each of a phase that gathers nothing
+pub askable_now : (s : Search) → Ready s → Askable s s.phase
+askable_now s h = record { low = h.low; high = h.high; fits = gathered_most s.setup.n s.counts.builds s.phase h.phase; live = h.live }
+
+-- a search that is refused neither as damaged nor as ended is intact and has not ended
+unrefused : (s : Search) (v : Verdict) → check (undamaged s) Damaged (check (not (is_ended s.phase)) SearchEnded v) ≡ Ok tt → (intact s ≡ true) × (is_ended s.phase ≡ false)
+unrefused s v h =
+    let k = simp check_iff at h in
+    let live = not-true (is_ended s.phase) k.1.0 in
+    (rw live at k.0, live)
 
 -- ---- what an accepted call takes
 
-module _ (s : Search) (a : Ok tt ≡ ask_verdict s) where
-  -- the search of an accepted ask is sound
-  ask_sound : sound s ≡ true
-  unfolding ask_verdict
-  ask_sound = unrefused s (Ok tt) (sym a)
+-- what an accepted ask takes; the verdict stands before it, since tactics find the call by it
+pub ask_takes : (s : Search) → Ok tt ≡ ask_verdict s → (ask_verdict s ≡ Ok tt) × (Askable s s.phase) × (s.readings < max_budget)
+unfolding ask_verdict
+ask_takes s a =
+    let h = unrefused s (Ok tt) (sym a) in
+    (sym a, askable_now s (ready s h), below s h)
 
-  -- its trial can be asked for
-  pub ask_askable : Askable s s.phase
-  ask_askable = record { low = (ready s ask_sound).low; high = (ready s ask_sound).high; fits = fits s ask_sound }
-
-  -- it has fewer readings than the largest budget
-  pub ask_below : s.readings < max_budget
-  ask_below = below s ask_sound
-
--- what an accepted ask takes
-pub ruleset asks = (ask_askable, ask_below)
-
--- what an accepted tell takes; the verdict stands before it, since tactics find the call by it
+-- what an accepted tell takes, in the same form
 pub tell_takes : (s : Search) (number cost : ℕ) → Ok tt ≡ tell_verdict s number cost
-    → (tell_verdict s number cost ≡ Ok tt) × (Ready s) × (s.readings < max_budget) × (Fits s.setup.n s.phase) × (cost ≤ max_cost)
+    → (tell_verdict s number cost ≡ Ok tt) × (Ready s) × (s.readings < max_budget) × (cost ≤ max_cost)
 unfolding tell_verdict
 tell_takes s number cost a =
-    let h : sound s ≡ true = unrefused s _ (sym a) in
+    let h = unrefused s _ (sym a) in
     let k = simp check_iff at (sym a) in
-    (sym a, ready s h, below s h, fits s h, omega (arith, leb-true))
+    (sym a, ready s h, below s h, omega (arith, leb-true))

@@ -1,30 +1,22 @@
--- Laws of the stopping rules: the sums of costs, the places from one on, and the rule by the movement already summed. Assumes nothing.
+-- Laws of the stopping rules: the sums of costs, the places from one on, and the movement. Assumes nothing.
 use mathlib.Core.Path.{◌≡◌, refl}
-use mathlib.Core.Bool.{◌&&◌}
-use mathlib.Core.Logic.{◌≢◌}
+use mathlib.Core.Bool.{true, ◌&&◌}
 use mathlib.Core.List.{List, [], ◌∷◌, ◌++◌, map, map-append}
 use Prim.Native.Nat.{ℕ, zero, suc, ◌+◌, ◌≤◌, ◌<◌}
 use native.Mathlib.Numerals.{add-one}
 use native.Mathlib.Nat.{mul-le-mul}
 use native.Mathlib.Omega.{arith}
-use lib.ListN.{length, get_or, take, drop}
+use lib.ListN.{length, get_or, take, drop, length-take}
 use lib.Seq.{take-suc, drop-append-le, length-take-le, get_or-take}
 use lib.Ieee.{Float, nan}
-use Rattle.rules.specs.Binary64.{0ᶠ, float, ◌⊗◌, ◌≤ᶠ◌, ◌<ᶠ◌}
+use Rattle.rules.specs.Binary64.{0ᶠ, ◌⊗◌, ◌≤ᶠ◌}
 use Rattle.rules.specs.Numbers.{max_cost}
-use Rattle.engine.specs.Places.{Capped}
+use Rattle.rules.specs.Calls.{all_costs}
 use Rattle.rules.specs.Simplex.{up_to, point_of, place, unpack}
-use Rattle.rules.specs.Stop.{total, square, apart, movement, moved_met, norm, scale, all_within, size_met}
-use Rattle.rules.specs.Accept.{met}
+use Rattle.rules.specs.Stop.{total, square, apart, movement, norm, scale, all_within, size_met}
 use Rattle.rules.specs.declared.Simplex.{Simplex}
-use Rattle.rules.specs.declared.Vertex.{Vertex}
-use Rattle.rules.specs.declared.Rule.{Rule}
-use Rattle.rules.specs.declared.Rule.TheVariants.{Spread, Moved, Size}
 use Rattle.rules.proofs.Laws.Lists.{length_up_to}
-use Rattle.engine.specs.Finish.{piece_of, met_by}
-use Rattle.engine.specs.declared.stop.Piece as own
-use Rattle.engine.specs.declared.stop.Piece.TheVariants.{Build, Reflection, Expansion, Contraction, Shrink}
-use Rattle.engine.proofs.Laws.Placing.{rest_more}
+use Rattle.engine.proofs.Laws.Placing.{cost_low, rest_more}
 
 -- ---- the sums of costs
 
@@ -43,12 +35,10 @@ pub squares_next : (cs : List ℕ) (i : ℕ) → i < length cs → total (map sq
 squares_next cs i h = rw (add-one, take-suc cs i 0 h, map-append square, total_more)
 
 -- a cost among the first m of costs in range is in range
-pub low_take : (cs : List ℕ) (m i : ℕ) → Capped cs → i < length (take m cs) → get_or (take m cs) i 0 ≤ max_cost
-low_take [] zero i h l = absurd (omega arith)
-low_take [] (suc m) i h l = absurd (omega arith)
-low_take (c ∷ cs) zero i h l = absurd (omega arith)
-low_take (c ∷ cs) (suc m) zero h l = h 0
-low_take (c ∷ cs) (suc m) (suc i) h l = low_take cs m i (λ (j : ℕ). h (suc j)) (omega arith)
+pub low_take : (cs : List ℕ) (m i : ℕ) → all_costs cs ≡ true → i < length (take m cs) → get_or (take m cs) i 0 ≤ max_cost
+low_take cs m i h l =
+    let k : i < m = omega (arith, length-take m cs) in
+    rw (get_or-take m cs i 0 k) (cost_low cs h i)
 
 -- the square of a cost in range
 pub square_low : (c : ℕ) → c ≤ max_cost → square c ≤ square max_cost
@@ -101,7 +91,7 @@ rest_points s (suc n) =
     let l : 1 ≤ length (up_to (place s) (n + 1)) = omega (arith, length_up_to (place s) (n + 1)) in
     rw (e, drop-append-le 1 (up_to (place s) (n + 1)) (place s (n + 1) ∷ []) l, map-append point_of, rest_points s n, add-one)
 
--- ---- the rule by the movement
+-- ---- the movement
 
 -- the movement with one replaced vertex more runs on from the movement before
 pub movement_more : (n : ℕ) (xs ys : List (List Float)) (x y : List Float) (t : Float) → length xs ≡ length ys → movement n (xs ++ (x ∷ [])) (ys ++ (y ∷ [])) t ≡ apart x y (movement n xs ys t) n
@@ -110,23 +100,3 @@ movement_more n [] [] x y t h = refl
 movement_more n [] (b ∷ ys) x y t h = absurd (omega arith)
 movement_more n (a ∷ xs) [] x y t h = absurd (omega arith)
 movement_more n (a ∷ xs) (b ∷ ys) x y t h = movement_more n xs ys x y (apart a b t n) (omega arith)
-
--- the rule tested is the rule of the movement between the replaced points
-pub met_by_lem : (rule : Rule) (n : ℕ) (p : own.Piece) (old new : List (List Float)) (vs : List Vertex) → met rule n (piece_of p) old new vs ≡ met_by rule n p (movement n old new 0ᶠ) vs
-unfolding met moved_met met_by
-met_by_lem (Spread e) n p old new vs = refl
-met_by_lem (Moved e) n Build old new vs = refl
-met_by_lem (Moved e) n Reflection old new vs = refl
-met_by_lem (Moved e) n Expansion old new vs = refl
-met_by_lem (Moved e) n Contraction old new vs = refl
-met_by_lem (Moved e) n Shrink old new vs = refl
-met_by_lem (Size e) n p old new vs = refl
-
--- the rule moved at the end of an iteration
-pub met_by_moved : (e : Float) (n : ℕ) (p : own.Piece) (t : Float) (vs : List Vertex) → p ≢ Build → met_by (Moved e) n p t vs ≡ t <ᶠ e ⊗ float n
-unfolding met_by
-met_by_moved e n Build t vs h = absurd (h refl)
-met_by_moved e n Reflection t vs h = refl
-met_by_moved e n Expansion t vs h = refl
-met_by_moved e n Contraction t vs h = refl
-met_by_moved e n Shrink t vs h = refl

@@ -1,18 +1,32 @@
--- Laws of `finishes`: which piece a reading ends, by the facts of its phase. Assumes nothing.
-use mathlib.Core.Path.{◌≡◌}
-use mathlib.Core.Bool.{true, false}
-use mathlib.Core.List.{[], ◌∷◌}
+-- The tally agrees with the table on the piece that a reading finishes, and with `view` on what a probe is, though each says it on its own.
+-- Assumes nothing.
+use Rattle.std.specs.Option.{option_to_list}
+use mathlib.Core.Path.{◌≡◌, refl}
+use mathlib.Core.List.{List}
 use Prim.Native.Nat.{ℕ}
-use Rattle.rules.specs.Accept.{contraction, wins}
-use Rattle.rules.specs.Tally.{finishes}
+use native.Mathlib.Omega.{arith}
+use Rattle.std.proofs.lemmas.Bool.Decides.{nat_tests}
+use Rattle.rules.specs.View.{is_probe}
+use Rattle.rules.specs.Decide.{decided, finished_by}
+use Rattle.rules.specs.Tally.{ended_by, probe_in}
 use Rattle.rules.specs.declared.Search.{Search}
-use Rattle.rules.specs.declared.Side.{Side}
-use Rattle.rules.specs.declared.Phase.TheVariants.{Contracting}
+use Rattle.rules.specs.declared.Phase.{Phase}
+use Rattle.rules.specs.declared.Phase.TheVariants.{Contracting, Probing}
+use Rattle.rules.specs.declared.Side.TheVariants.{Outside}
+use Rattle.rules.specs.declared.Piece.{Piece}
+use Rattle.rules.specs.declared.Decision.{Decision}
 
-module _ (s : Search) (c : ℕ) where
-  -- a contracted point that is taken ends one, and one that is not does not
-  pub contract_ends : (side : Side) (f : ℕ) → wins side f c s ≡ true → finishes (Contracting side f) s c ≡ contraction ∷ []
-  contract_ends side f h = rw h
+-- the pieces that a decision finishes: one or none
+abbrev pub pieces_by : Decision → List Piece
+pieces_by d = option_to_list (finished_by d)
 
-  pub contract_more : (side : Side) (f : ℕ) → wins side f c s ≡ false → finishes (Contracting side f) s c ≡ []
-  contract_more side f h = rw h
+-- in every phase the tally has those that the decision finishes
+pub ended_decided : (p : Phase) (s : Search) (c : ℕ) → ended_by p s c ≡ pieces_by (decided p s c)
+unfolding decided
+ended_decided (Contracting Outside f) s c = grind (arith, nat_tests)
+ended_decided p s c = grind (arith, nat_tests)
+
+-- the tally and `view` tell the same phases as those of a probe
+pub probe_viewed : (p : Phase) → probe_in p ≡ is_probe p
+probe_viewed (Probing q) = refl
+probe_viewed _ = refl

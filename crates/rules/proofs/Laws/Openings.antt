@@ -1,7 +1,7 @@
 -- What an opening that is not refused gives, and that an unfinished search asks within its limits. Assumes nothing.
 use Rattle.std.specs.Prelude.{Option, Ok, Err}
 use mathlib.Core.Path.{◌≡◌, refl, sym, ◌∙◌}
-use mathlib.Core.Bool.{Bool, true, false, true≢false, false≢true, and-eq-true_iff}
+use mathlib.Core.Bool.{Bool, true, false, false≢true, and-eq-true_iff}
 use mathlib.Core.List.{List, [], ◌∷◌}
 use mathlib.Core.Logic.{◌↔◌, ⊎_elim}
 use Prim.Native.Nat.{ℕ, zero, suc, suc-le-suc, ◌+◌, ◌≤◌, ◌<◌}
@@ -13,18 +13,15 @@ use borrow.Author.Tests.{leb-true}
 use Rattle.std.proofs.lemmas.List.{places}
 use Rattle.rules.specs.Binary64.{◌≤ᶠ◌, ◌<ᶠ◌}
 use Rattle.rules.specs.Numbers.{max_budget}
-use Rattle.rules.specs.Trial.{no_axis, axis, clamped, reflected, expanded, contracted, shrunk, built, probed, asked, trial}
+use Rattle.rules.specs.Trial.{no_axis, axis, clamped, target, asked, trial}
 use Rattle.rules.specs.Refusals.{Verdict, check, answered}
 use Rattle.rules.specs.Opening.{in_threshold, axis_checks, axes_checks, rule_of, keep, fresh, opened_by, open_verdict, opening}
-use Rattle.rules.specs.Calls.{sound_rule, is_ended}
+use Rattle.rules.specs.Calls.{sound_rule}
 use Rattle.rules.specs.Claims.{Within}
 use Rattle.rules.specs.declared.Axis.{Axis}
 use Rattle.rules.specs.declared.Coefficients.{Coefficients}
 use Rattle.rules.specs.declared.Rule.{Rule}
 use Rattle.rules.specs.declared.Rule.TheVariants.{Spread}
-use Rattle.rules.specs.declared.Phase.{Phase}
-use Rattle.rules.specs.declared.Phase.TheVariants.{Contracting, Ended}
-use Rattle.rules.specs.declared.Side.TheVariants.{Outside, Inside}
 use Rattle.rules.specs.declared.Setup.{Setup}
 use Rattle.rules.specs.declared.Search.{Search}
 use Rattle.rules.specs.declared.Refusal.{Refusal}
@@ -138,16 +135,7 @@ clamped_within t h a l v =
     let x = axis t a in
     (clamp_low x.lo x.hi v (h.limits a l), clamp_high x.lo x.hi v (h.limits a l))
 
--- every coordinate that a phase before the end asks for lies within the limits of its axis
-coordinate_within : (s : Search) → Sane s.setup → (p : Phase) → is_ended p ≡ false → (a : ℕ) → a < s.setup.n
-    → (((axis s.setup a).lo ≤ᶠ asked s p a) ≡ true) × ((asked s p a ≤ᶠ (axis s.setup a).hi) ≡ true)
-unfolding built reflected expanded contracted shrunk probed
-coordinate_within s h (Ended cause) e a l = absurd (true≢false e)
-coordinate_within s h (Contracting Outside f) e a l = clamped_within s.setup h a l _
-coordinate_within s h (Contracting Inside f) e a l = clamped_within s.setup h a l _
-coordinate_within s h p e a l = clamped_within s.setup h a l _
-
--- an unfinished search asks within its limits
-pub trial_within : (s : Search) → Sane s.setup → is_ended s.phase ≡ false → Within s.setup (trial s)
+-- every trial lies within its limits
+pub trial_within : (s : Search) → Sane s.setup → Within s.setup (trial s)
 unfolding trial
-trial_within s h e a l = rw (get_or_point s.setup.n (asked s s.phase) a l) (coordinate_within s h s.phase e a l)
+trial_within s h a l = rw (get_or_point s.setup.n (asked s s.phase) a l) (clamped_within s.setup h a l (target s s.phase a))

@@ -12,7 +12,7 @@ use lib.Dec.{leb}
 use Rattle.std.proofs.lemmas.Bool.Decides.{nat_tests}
 use Rattle.std.proofs.lemmas.Bool.{cases_lt}
 use Rattle.rules.specs.declared.Vertex.{Vertex}
-use Rattle.rules.specs.Simplex.{blank, insert, at_most, Ordered}
+use Rattle.rules.specs.Simplex.{cost_of, blank, insert, at_most, Ordered}
 use Rattle.rules.specs.Stop.{total}
 use Rattle.rules.specs.Calls.{in_order}
 use Rattle.rules.proofs.Laws.Lists.{mem_get_or}
@@ -149,19 +149,12 @@ ordered_at (x ∷ xs) zero j h l k = lowest x xs h (get_or (x ∷ xs) j blank) (
 ordered_at (x ∷ xs) (suc i) zero h l k = absurd (not-suc-le-zero l)
 ordered_at (x ∷ xs) (suc i) (suc j) h l k = ordered_at xs i j h.1 (le_of_suc-le-suc l) (le_of_suc-le-suc k)
 
--- the test for the order holds where the order does
-pub in_order_lem : (vs : List Vertex) → Ordered vs → in_order vs ≡ true
+-- the test for the order of the costs holds where the order does
+pub in_order_lem : (vs : List Vertex) → Ordered vs → in_order (map cost_of vs) ≡ true
 unfolding Ordered in_order
 in_order_lem [] h = refl
 in_order_lem (x ∷ []) h = refl
 in_order_lem (x ∷ (y ∷ ys)) h = grind (arith, nat_tests, in_order_lem (y ∷ ys))
-
--- the test for the order holds only where the order does
-pub from_in_order : (vs : List Vertex) → in_order vs ≡ true → Ordered vs
-unfolding Ordered in_order
-from_in_order [] h = tt
-from_in_order (x ∷ []) h = (tt, tt)
-from_in_order (x ∷ (y ∷ ys)) h = grind (arith, nat_tests, from_in_order (y ∷ ys))
 
 -- a measure of n + 1 vertices is that of the first n and the last's
 pub total_take : (f : Vertex → ℕ) (n : ℕ) (vs : List Vertex) → length vs ≡ n + 1 → total (map f vs) ≡ total (map f (take n vs)) + f (get_or vs n blank)

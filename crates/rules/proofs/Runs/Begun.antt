@@ -1,36 +1,35 @@
 -- What is true of the rules over every accepted history of a newly opened search. Assumes nothing.
 use Rattle.std.specs.Prelude.{Option}
-use mathlib.Core.Path.{◌≡◌, refl, sym, ap, ◌∙◌, subst}
+use mathlib.Core.Path.{◌≡◌, refl, sym, ap, ◌∙◌}
 use mathlib.Core.Bool.{cond}
 use mathlib.Core.List.{List, [], Memᴰ}
 use Prim.Native.Nat.{ℕ, ◌+◌, ◌<◌}
 use native.Mathlib.Omega.{arith}
-use lib.ListN.{length}
+use lib.ListN.{length, length-map}
 use lib.Dec.{eqb}
-use Rattle.std.proofs.lemmas.Bool.Decides.{nat_tests}
-use Rattle.std.proofs.lemmas.Bool.{cond_both}
-use Rattle.rules.specs.declared.Counts.{Counts}
-use Rattle.rules.proofs.Steps.Stepping.{Counted}
-use Rattle.rules.specs.Tally.{pieces, made, probes_in, open_in}
 use Rattle.rules.specs.Binary64.{0ᶠ}
-use Rattle.rules.specs.Simplex.{first_of}
-use Rattle.rules.specs.Accept.{build, run}
-use Rattle.rules.specs.Opening.{no_counts, fresh}
-use Rattle.rules.specs.Calls.{standing_of}
-use Rattle.rules.specs.History.{reading, EarliestLeast}
+use Rattle.rules.specs.Simplex.{cost_of, first_of}
+use Rattle.rules.specs.Count.{count_in, no_counts}
+use Rattle.rules.specs.Opening.{fresh}
+use Rattle.rules.specs.Calls.{standing_in, standing_of}
+use Rattle.rules.specs.History.{Event, run, costs_in, reading, EarliestLeast}
+use Rattle.rules.specs.Tally.{made, probes_in, open_in}
 use Rattle.rules.specs.declared.Rule.{Rule}
 use Rattle.rules.specs.declared.Axis.{Axis}
 use Rattle.rules.specs.declared.Coefficients.{Coefficients}
 use Rattle.rules.specs.declared.Vertex.{Vertex}
+use Rattle.rules.specs.declared.Setup.{Setup}
 use Rattle.rules.specs.declared.Search.{Search}
+use Rattle.rules.specs.declared.Piece.{Piece}
+use Rattle.rules.specs.declared.Piece.TheVariants.{Build}
 use Rattle.rules.specs.declared.Phase.TheVariants.{Building}
 use Rattle.rules.proofs.Laws.Openings.{Sane}
-use Rattle.rules.proofs.Laws.Histories.{readings_of, Joined, length_readings_of, costs_readings_of, get_or_readings_of, mem_readings_of}
+use Rattle.rules.proofs.Laws.Histories.{readings_of, Joined, costs_readings_of, get_or_readings_of, mem_readings_of}
 use Rattle.rules.proofs.Steps.Invariant.{Best, Inv}
 use Rattle.rules.proofs.Steps.Noting.{best_mem}
-use Rattle.rules.proofs.Steps.Accepting.{BelowBudget}
+use Rattle.rules.proofs.Steps.Counting.{count_by}
+use Rattle.rules.proofs.Steps.Stepping.{BelowBudget, standing_many, standing_list}
 use Rattle.rules.proofs.Runs.Running.{Ran, ran, fresh_inv, fresh_below}
-use Rattle.rules.proofs.Runs.Sound.{standing_list}
 
 -- a search as an opening gives it: nothing told, nothing counted
 pub record Begun (o : Search) : Type 0 where
@@ -44,7 +43,7 @@ unfolding fresh
 fresh_begun n axes rule c budget h = record { inv = fresh_inv n axes rule c budget h; below = fresh_below n axes rule c budget h; counts = refl; phase = refl }
 
 module _ (o : Search) (begun : Begun o) where
-  module _ (h : List ℕ) (t : Joined o h) where
+  module _ (h : List Event) (t : Joined o h) where
     pub whole_run : Ran [] o h
     whole_run = ran [] o begun.inv begun.below h t
 
@@ -53,12 +52,20 @@ module _ (o : Search) (begun : Begun o) where
 
     -- ---- readings and counts
 
-    pub run_readings : (run o h).readings ≡ length h
-    run_readings = run_inv.noted.told ∙ length_readings_of o h
+    -- the readings are the costs of the history
+    pub run_readings : (run o h).readings ≡ length (costs_in h)
+    run_readings = run_inv.noted.told ∙ sym (length-map (readings_of o h) cost_of) ∙ ap length (costs_readings_of o h)
 
     -- the pieces and the probes that the search has counted are those of the history
-    pub run_counts : Counted (pieces o h) (probes_in o h) no_counts (run o h).counts
-    run_counts = subst (λ (c : Counts). Counted (pieces o h) (probes_in o h) c (run o h).counts) begun.counts whole_run.counts
+    pub run_counts : (p : Piece) → count_in p (run o h).counts ≡ made p o h
+    run_counts p =
+        let none : count_in p o.counts ≡ 0 = rw begun.counts (count_by (λ q. 0) 0 0 p) in
+        omega (arith, whole_run.counts.pieces p)
+
+    pub run_probes : (run o h).counts.probes ≡ probes_in o h
+    run_probes =
+        let none : o.counts.probes ≡ 0 = rw begun.counts in
+        omega (arith, whole_run.counts.probes)
 
     pub run_unfinished : (run o h).counts.unfinished ≡ open_in 0 o h
     run_unfinished = whole_run.unfinished ∙ ap (λ c. open_in c.unfinished o h) begun.counts
@@ -68,24 +75,21 @@ module _ (o : Search) (begun : Begun o) where
     pub run_standing : standing_of (run o h) ≡ run_inv.vs
     run_standing = standing_list (readings_of o h) (run o h) run_inv
 
-    pub run_places : length (standing_of (run o h)) ≡ cond (eqb (made build o h) 0) 0 (o.setup.n + 1)
+    pub run_places : length (standing_of (run o h)) ≡ cond (eqb (made Build o h) 0) 0 (o.setup.n + 1)
     run_places =
-        rw run_standing
-        (cond_both (eqb (made build o h) 0) _ _ (λ (k : ℕ). length run_inv.vs ≡ k)
-        (λ e. ap length (run_inv.stands.none (grind (arith, nat_tests, run_counts.builds))))
-        (λ e. run_inv.stands.all (grind (arith, nat_tests, run_counts.builds)) ∙ rw whole_run.kept))
+        rw (run_standing, ← run_counts Build) (standing_many run_inv.stands ∙ ap (λ (t : Setup). standing_in t.n (run o h).counts.builds) whole_run.kept)
 
-    pub run_vertices : (v : Vertex) → Memᴰ v (standing_of (run o h)) → (k : ℕ) × (k < length h) × (v ≡ reading o h k)
+    pub run_vertices : (v : Vertex) → Memᴰ v (standing_of (run o h)) → (k : ℕ) × (k < length (costs_in h)) × (v ≡ reading o h k)
     run_vertices v m = mem_readings_of o h v (run_inv.stands.known v (rw run_standing at m))
 
     -- ---- the best
 
-    pub run_best : 0 < length h → (k : ℕ) × EarliestLeast h k × ((run o h).best ≡ reading o h k)
+    pub run_best : 0 < length (costs_in h) → (k : ℕ) × EarliestLeast (costs_in h) k × ((run o h).best ≡ reading o h k)
     run_best l =
         let b : Best (readings_of o h) (run o h).best = run_inv.noted.least (omega (arith, run_readings)) in
-        let e : EarliestLeast h b.0 = rw (costs_readings_of o h) at b.1 in
+        let e : EarliestLeast (costs_in h) b.0 = rw (costs_readings_of o h) at b.1 in
         (b.0, e, sym b.2 ∙ get_or_readings_of o h b.0 e.told)
 
     -- the best's point has n coordinates and zeros after them
-    pub best_shape : 0 < length h → first_of (run o h).setup.n 0ᶠ (run o h).best.point ≡ (run o h).best.point
+    pub best_shape : 0 < length (costs_in h) → first_of (run o h).setup.n 0ᶠ (run o h).best.point ≡ (run o h).best.point
     best_shape l = (run_inv.noted.shapes (run o h).best (best_mem (readings_of o h) (run o h).best (run_inv.noted.least (omega (arith, run_readings))))).shape

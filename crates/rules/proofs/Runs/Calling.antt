@@ -14,9 +14,9 @@ use Rattle.rules.specs.Refusals.{Verdict}
 use Rattle.rules.specs.Binary64.{0ᶠ}
 use Rattle.rules.specs.Simplex.{first_of}
 use Rattle.rules.specs.Trial.{trial}
-use Rattle.rules.specs.Accept.{run}
-use Rattle.rules.specs.Calls.{is_ended, undamaged, ask_verdict, tell_verdict, best_verdict, told_by, asking, telling, showing}
-use Rattle.rules.specs.History.{Call, ask, tell, best, after1, after, joins, history1, history_from, reading, EarliestLeast}
+use Rattle.rules.specs.View.{is_ended}
+use Rattle.rules.specs.Calls.{undamaged, ask_verdict, tell_verdict, best_verdict, told_by, asking, telling, showing}
+use Rattle.rules.specs.History.{Call, ask, tell, best, Event, told, after1, after, run, costs_in, joins, history1, history_from, reading, EarliestLeast}
 use Rattle.rules.specs.declared.Vertex.{Vertex}
 use Rattle.rules.specs.declared.Search.{Search}
 use Rattle.rules.specs.declared.Asked.{Asked}
@@ -36,7 +36,7 @@ pub told_refused : (v : Verdict) (s : Search) (c : ℕ) → (v ≡ Ok tt → ⊥
 told_refused (Ok _) s c h = absurd (h refl)
 told_refused (Err r) s c h = refl
 
-module _ (o : Search) (begun : Begun o) (h : List ℕ) (t : Joined o h) where
+module _ (o : Search) (begun : Begun o) (h : List Event) (t : Joined o h) where
   -- refusal 12 is not given
   pub run_undamaged : undamaged (run o h) ≡ true
   run_undamaged = let r = whole_run o begun h t in never_damaged (readings_of o h) (run o h) r.inv r.below
@@ -65,7 +65,7 @@ module _ (o : Search) (begun : Begun o) (h : List ℕ) (t : Joined o h) where
 
   -- ---- ask
 
-  pub asking_answers : is_ended (run o h).phase ≡ false → asking (run o h) ≡ Ok (record { number = length h + 1; point = trial (run o h) })
+  pub asking_answers : is_ended (run o h).phase ≡ false → asking (run o h) ≡ Ok (record { number = length (costs_in h) + 1; point = trial (run o h) })
   unfolding asking ask_verdict
   asking_answers e = rw (run_undamaged, e, run_readings o begun h t)
 
@@ -79,7 +79,7 @@ module _ (o : Search) (begun : Begun o) (h : List ℕ) (t : Joined o h) where
 
   -- ---- best
 
-  pub showing_best : 0 < length h → (k : ℕ) × EarliestLeast h k × (showing (run o h) ≡ Ok (reading o h k))
+  pub showing_best : 0 < length (costs_in h) → (k : ℕ) × EarliestLeast (costs_in h) k × (showing (run o h) ≡ Ok (reading o h k))
   unfolding showing best_verdict
   showing_best l =
       let b = run_best o begun h t l in
@@ -89,10 +89,10 @@ module _ (o : Search) (begun : Begun o) (h : List ℕ) (t : Joined o h) where
 
   -- ---- one call
 
-  tell_joined : (k c : ℕ) → joins o h k c ≡ true → Joined o (h ++ c ∷ [])
+  tell_joined : (k c : ℕ) → joins o h k c ≡ true → Joined o (h ++ told c ∷ [])
   tell_joined k c e =
       let p = simp and-eq-true_iff at e in
-      joined_snoc o h c t (not-true (is_ended (run o h).phase) p.0.0) (grind (arith, nat_tests))
+      joined_snoc o h (told c) t (not-true (is_ended (run o h).phase) p.0.0, grind (arith, nat_tests))
 
   -- the history after a call is accepted, and the search that the call returns is that of the rules over it
   abbrev Follows : Call → Type 0
@@ -103,13 +103,13 @@ module _ (o : Search) (begun : Begun o) (h : List ℕ) (t : Joined o h) where
   follows ask = (t, refl)
   follows best = (t, refl)
   follows (tell k c) =
-      cond_both (joins o h k c) _ _ (λ (p : List ℕ). Joined o p × ((telling (run o h) k c).search ≡ run o p))
-      (λ e. (tell_joined k c e, rw ((tell_joins k c).1 e) (sym (run_snoc o h c))))
+      cond_both (joins o h k c) _ _ (λ (p : List Event). Joined o p × ((telling (run o h) k c).search ≡ run o p))
+      (λ e. (tell_joined k c e, rw ((tell_joins k c).1 e) (sym (run_snoc o h (told c)))))
       (λ e. (t, told_refused (tell_verdict (run o h) k c) (run o h) c (λ a. true≢false (sym ((tell_joins k c).0 a) ∙ e))))
 
 -- ---- a list of calls
 
-pub all_follow : (o : Search) (begun : Begun o) (cs : List Call) (h : List ℕ) → Joined o h → Joined o (history_from o h cs) × (after (run o h) cs ≡ run o (history_from o h cs))
+pub all_follow : (o : Search) (begun : Begun o) (cs : List Call) (h : List Event) → Joined o h → Joined o (history_from o h cs) × (after (run o h) cs ≡ run o (history_from o h cs))
 unfolding after history_from
 all_follow o begun [] h t = (t, refl)
 all_follow o begun (c ∷ cs) h t =

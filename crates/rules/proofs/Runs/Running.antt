@@ -2,46 +2,47 @@
 use Rattle.std.specs.Prelude.{Option}
 use mathlib.Core.Path.{◌≡◌, refl, ap, ◌∙◌}
 use mathlib.Core.List.Memᴰ
-use mathlib.Core.List.{List, [], ◌∷◌, ◌++◌, append-nil}
+use mathlib.Core.List.{List, [], ◌∷◌, ◌++◌, append_assoc, append-nil}
 use Prim.Native.Nat.{ℕ, ◌+◌, ◌≤◌}
 use native.Mathlib.Omega.{arith}
-use lib.Seq.{append_snoc}
 use Rattle.rules.specs.Simplex.{Ordered}
-use Rattle.rules.specs.Accept.{Piece, build, shrink, accept, run}
 use Rattle.rules.specs.Opening.{fresh}
-use Rattle.rules.specs.Tally.{finishes, is_probe, pieces, count_of, probes_in, open_in}
+use Rattle.rules.specs.History.{Event, step, run}
+use Rattle.rules.specs.Tally.{finishes, pieces, count_of, probe_by, probes_in, open_in}
 use Rattle.rules.specs.declared.Rule.{Rule}
 use Rattle.rules.specs.declared.Axis.{Axis}
 use Rattle.rules.specs.declared.Coefficients.{Coefficients}
 use Rattle.rules.specs.declared.Counts.{Counts}
 use Rattle.rules.specs.declared.Vertex.{Vertex}
 use Rattle.rules.specs.declared.Search.{Search}
+use Rattle.rules.specs.declared.Piece.{Piece}
+use Rattle.rules.specs.declared.Piece.TheVariants.{Build, Shrink}
 use Rattle.rules.proofs.Laws.Openings.{Sane}
-use Rattle.rules.proofs.Laws.Histories.{reading_of, readings_of, Joined, count_of_append}
+use Rattle.rules.proofs.Laws.Histories.{read_by, readings_of, Joined, count_of_append}
 use Rattle.rules.proofs.Steps.Invariant.{Inv}
-use Rattle.rules.proofs.Steps.Noting.{◌▹◌}
-use Rattle.rules.proofs.Steps.Stepping.{Counted, TakesReading, others_in, standing_costs}
-use Rattle.rules.proofs.Steps.Accepting.{BelowBudget, accept_step, accept_below}
+use Rattle.rules.proofs.Steps.Counting.{Counted}
+use Rattle.rules.proofs.Steps.Stepping.{BelowBudget, TakesReading, others_in, standing_costs}
+use Rattle.rules.proofs.Steps.Accepting.{event_step}
 
 -- ---- counts of one list of pieces after another
 
 counted_none : (c : Counts) → Counted [] 0 c c
 unfolding count_of
-counted_none c = omega arith
+counted_none c = record { pieces = λ p. omega arith; probes = omega arith }
 
 counted_append : (ps qs : List Piece) (k l : ℕ) (c d e : Counts) → Counted ps k c d → Counted qs l d e → Counted (ps ++ qs) (k + l) c e
-counted_append ps qs k l c d e h g = grind (arith, count_of_append, h, g)
+counted_append ps qs k l c d e h g = record { pieces = λ p. omega (arith, count_of_append p ps qs, h.pieces p, g.pieces p); probes = omega (arith, h.probes, g.probes) }
 
 -- ---- the run
 
--- s takes the costs of h, one after the other; rs are its readings before
-pub record Ran (rs : List Vertex) (s : Search) (h : List ℕ) : Type 0 where
+-- s takes the events of h, one after the other; rs are its readings before
+pub record Ran (rs : List Vertex) (s : Search) (h : List Event) : Type 0 where
   pub inv : Inv (rs ++ readings_of s h) (run s h)
   pub below : BelowBudget (run s h)
   pub kept : (run s h).setup ≡ s.setup
   pub counts : Counted (pieces s h) (probes_in s h) s.counts (run s h).counts
   pub unfinished : (run s h).counts.unfinished ≡ open_in s.counts.unfinished s h
-  pub falls : count_of build (pieces s h) ≡ 0 → count_of shrink (pieces s h) ≡ 0 → others_in (pieces s h) + standing_costs (run s h) ≤ standing_costs s
+  pub falls : count_of Build (pieces s h) ≡ 0 → count_of Shrink (pieces s h) ≡ 0 → others_in (pieces s h) + standing_costs (run s h) ≤ standing_costs s
 
 ran_none : (rs : List Vertex) (s : Search) → Inv rs s → BelowBudget s → Ran rs s []
 unfolding run readings_of pieces probes_in open_in count_of
@@ -49,31 +50,31 @@ ran_none rs s inv below = record { inv = rw append-nil inv; below = below; kept 
 
 -- the sum falls over one list of pieces after another
 falls_append : (ps qs : List Piece) (a b c : ℕ)
-    → (count_of build ps ≡ 0 → count_of shrink ps ≡ 0 → others_in ps + b ≤ a) → (count_of build qs ≡ 0 → count_of shrink qs ≡ 0 → others_in qs + c ≤ b)
-    → count_of build (ps ++ qs) ≡ 0 → count_of shrink (ps ++ qs) ≡ 0 → others_in (ps ++ qs) + c ≤ a
+    → (count_of Build ps ≡ 0 → count_of Shrink ps ≡ 0 → others_in ps + b ≤ a) → (count_of Build qs ≡ 0 → count_of Shrink qs ≡ 0 → others_in qs + c ≤ b)
+    → count_of Build (ps ++ qs) ≡ 0 → count_of Shrink (ps ++ qs) ≡ 0 → others_in (ps ++ qs) + c ≤ a
 falls_append ps qs a b c h g x y = grind (arith, count_of_append, h, g, x, y)
 
-ran_more : (rs : List Vertex) (s : Search) (c : ℕ) (h : List ℕ) → TakesReading (rs ▹ reading_of s c) (finishes s.phase s c) (is_probe s.phase) s (accept s c)
-    → Ran (rs ▹ reading_of s c) (accept s c) h → Ran rs s (c ∷ h)
+ran_more : (rs : List Vertex) (s : Search) (e : Event) (h : List Event) → TakesReading (rs ++ read_by s e) (finishes s e) (probe_by s e) s (step s e)
+    → Ran (rs ++ read_by s e) (step s e) h → Ran rs s (e ∷ h)
 unfolding run readings_of pieces probes_in open_in
-ran_more rs s c h g r =
-    let ps = finishes s.phase s c in
-    let u = accept s c in
+ran_more rs s e h g r =
+    let ps = finishes s e in
+    let u = step s e in
     record {
-      inv = rw (append_snoc rs (reading_of s c) (readings_of u h)) at r.inv;
+      inv = rw append_assoc at r.inv;
       below = r.below;
       kept = r.kept ∙ g.kept;
-      counts = counted_append ps (pieces u h) (is_probe s.phase) (probes_in u h) s.counts u.counts (run u h).counts g.counts r.counts;
+      counts = counted_append ps (pieces u h) (probe_by s e) (probes_in u h) s.counts u.counts (run u h).counts g.counts r.counts;
       unfinished = r.unfinished ∙ ap (λ (k : ℕ). open_in k u h) g.unfinished;
       falls = falls_append ps (pieces u h) (standing_costs s) (standing_costs u) (standing_costs (run u h)) g.falls r.falls;
     }
 
-pub ran : (rs : List Vertex) (s : Search) → Inv rs s → BelowBudget s → (h : List ℕ) → Joined s h → Ran rs s h
+pub ran : (rs : List Vertex) (s : Search) → Inv rs s → BelowBudget s → (h : List Event) → Joined s h → Ran rs s h
 unfolding Joined
 ran rs s inv below [] t = ran_none rs s inv below
-ran rs s inv below (c ∷ h) t =
-    let g = accept_step rs s inv below c t.0 t.1 in
-    ran_more rs s c h g (ran (rs ▹ reading_of s c) (accept s c) g.inv (accept_below rs s inv below c t.0 t.1) h t.2)
+ran rs s inv below (e ∷ h) t =
+    let g = event_step rs s inv below e t.0 in
+    ran_more rs s e h g (ran (rs ++ read_by s e) (step s e) g.inv g.below h t.1)
 
 -- ---- from the opening on
 

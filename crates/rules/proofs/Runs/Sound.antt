@@ -1,26 +1,33 @@
 -- Refusal 12 is never given to a search that an opening and calls have made. Assumes nothing.
-use mathlib.Core.Path.{◌≡◌, refl, ap}
+use mathlib.Core.Path.{◌≡◌, refl, ap, ◌∙◌}
 use mathlib.Core.Bool.{true}
-use mathlib.Core.List.{List, Memᴰ}
+use mathlib.Core.List.{List, map, map-append, Memᴰ}
 use Prim.Native.Nat.{ℕ, ◌*◌, ◌≤◌, ◌<◌}
 use native.Mathlib.Omega.{arith}
 use native.Mathlib.Nat.{mul-le-mul_right}
-use lib.ListN.{length}
+use lib.ListN.{length, take, length-map}
+use lib.Seq.{take_at}
 use mathlib.Core.Logic.{⊎_elim}
 use Rattle.std.proofs.lemmas.Bool.Decides.{nat_tests}
 use Rattle.std.proofs.lemmas.Bool.{cases_Bool, or_left, or_right}
 use Rattle.rules.specs.Numbers.{max_cost}
-use Rattle.rules.specs.Simplex.{up_to, unpack, Ordered, cost_of}
-use Rattle.rules.specs.Calls.{is_ended, sound_phase, gathered_in, standing_of, in_order, all_costs, sound, undamaged}
+use Rattle.rules.specs.Simplex.{cost_of, store, pack, Ordered}
+use Rattle.rules.specs.View.{is_ended, gathered_in}
+use Rattle.rules.specs.Calls.{sound_phase, standing_in, in_order, all_costs, sound, intact, undamaged}
 use Rattle.rules.specs.declared.Vertex.{Vertex}
+use Rattle.rules.specs.declared.Simplex.{Simplex}
 use Rattle.rules.specs.declared.Search.{Search}
 use Rattle.rules.specs.declared.Phase.{Phase}
 use Rattle.rules.specs.declared.Phase.TheVariants.{Building, Expanding, Contracting, Shrinking, Probing}
 use Rattle.rules.proofs.Laws.Order.{in_order_lem}
 use Rattle.rules.proofs.Laws.Places.{costs_pack}
 use Rattle.rules.proofs.Steps.Invariant.{Known, At, Inv}
-use Rattle.rules.proofs.Steps.Stepping.{standing_are, gathered_are}
-use Rattle.rules.proofs.Steps.Accepting.{BelowBudget}
+use Rattle.rules.proofs.Steps.Stepping.{BelowBudget, standing_many}
+
+-- the costs of ordered vertices are in order where the vertices stand
+costs_in_order : (vs : List Vertex) (places : Simplex) (i : ℕ) → places ≡ pack vs → length vs ≡ i → Ordered vs → in_order (take i places.costs) ≡ true
+unfolding store
+costs_in_order vs places i e l h = rw (e, map-append cost_of, take_at (map cost_of vs) _ i (length-map vs cost_of ∙ l)) (in_order_lem vs h)
 
 module _ (rs : List Vertex) (s : Search) (inv : Inv rs s) where
   phase_sound : (p : Phase) → At p s.setup s.standing inv.vs inv.gs s.readings s.counts s.best → sound_phase s.setup.n s.counts.builds p ≡ true
@@ -31,31 +38,22 @@ module _ (rs : List Vertex) (s : Search) (inv : Inv rs s) where
   phase_sound (Probing p) h = grind (arith, nat_tests, h.2)
   phase_sound p h = refl
 
-  none_in_order : in_order (unpack 0 s.gathered) ≡ true
-  unfolding unpack up_to in_order
-  none_in_order = refl
-
-  some_in_order : (i : ℕ) → length inv.gs ≡ i → Ordered inv.gs → in_order (unpack i s.gathered) ≡ true
-  some_in_order i e h = rw (gathered_are rs inv.gs s.setup s.readings s.best s.gathered i inv.noted inv.gathers e) (in_order_lem inv.gs h)
-
-  gathered_in_order : (p : Phase) → At p s.setup s.standing inv.vs inv.gs s.readings s.counts s.best → in_order (unpack (gathered_in p) s.gathered) ≡ true
-  gathered_in_order (Building i) h = some_in_order i h.many h.sorted
-  gathered_in_order (Shrinking j) h = some_in_order j h.many h.sorted
-  gathered_in_order p h = none_in_order
-
-  pub standing_list : standing_of s ≡ inv.vs
-  standing_list = standing_are rs inv.vs s.setup s.readings s.best s.counts.builds s.standing inv.noted inv.stands
+  gathered_in_order : (p : Phase) → At p s.setup s.standing inv.vs inv.gs s.readings s.counts s.best → in_order (take (gathered_in p) s.gathered.costs) ≡ true
+  unfolding in_order
+  gathered_in_order (Building i) h = costs_in_order inv.gs s.gathered i inv.gathers.are h.many h.sorted
+  gathered_in_order (Shrinking j) h = costs_in_order inv.gs s.gathered j inv.gathers.are h.many h.sorted
+  gathered_in_order p h = refl
 
   low_costs : (vs : List Vertex) → Known vs rs → (v : Vertex) → Memᴰ v vs → v.cost ≤ max_cost
   low_costs vs h v m = (inv.noted.shapes v (h v m)).low
 
   -- by the equation no count is above the readings
-  pub sound_live : s.readings < s.setup.budget → sound s ≡ true
+  sound_live : s.readings < s.setup.budget → intact s ≡ true
   unfolding sound
   sound_live below =
       let t = inv.noted.sane in
       let builds : 1 * s.counts.builds ≤ s.setup.n * s.counts.builds = mul-le-mul_right s.counts.builds t.at_least in
-      let standing : in_order (standing_of s) ≡ true = rw standing_list (in_order_lem inv.vs inv.stands.sorted) in
+      let standing : in_order (take (standing_in s.setup.n s.counts.builds) s.standing.costs) ≡ true = costs_in_order inv.vs s.standing _ inv.stands.are (standing_many inv.stands) inv.stands.sorted in
       let gathered = gathered_in_order s.phase inv.phase in
       let standing_costs : all_costs s.standing.costs ≡ true = rw inv.stands.are (costs_pack inv.vs (low_costs inv.vs inv.stands.known)) in
       let gathered_costs : all_costs s.gathered.costs ≡ true = rw inv.gathers.are (costs_pack inv.gs (low_costs inv.gs inv.gathers.known)) in

@@ -12,12 +12,11 @@ use Rattle.std.proofs.lemmas.Bool.{cases_lt}
 use Rattle.std.proofs.lemmas.List.{places, nil_from_length}
 use Rattle.rules.specs.Numbers.{max_cost}
 use Rattle.rules.specs.Simplex.{blank, cost_of, insert}
-use Rattle.rules.specs.Accept.{replaces, best_after}
+use Rattle.rules.specs.Accept.{best_after}
 use Rattle.rules.specs.History.{EarliestLeast}
 use Rattle.rules.specs.declared.Vertex.{Vertex}
 use Rattle.rules.specs.declared.Setup.{Setup}
 use Rattle.rules.specs.declared.Search.{Search}
-use Rattle.rules.proofs.Laws.Tests.{better_elim}
 use Rattle.rules.proofs.Laws.Lists.{mem_get_or}
 use Rattle.rules.proofs.Laws.Order.{first_lower, first_stays}
 use Rattle.rules.proofs.Steps.Invariant.{Known, Leads, ReadingShape, Best, Noted}
@@ -41,13 +40,11 @@ known_new rs v = Memᴰ.append_right rs (Memᴰ.head refl)
 
 -- a reading that is lower than the best before it is the best
 pub best_falls : (k : ℕ) (v b : Vertex) → 1 ≤ k → v.cost < b.cost → best_after k v b ≡ v
-best_falls zero v b l h = absurd (omega arith)
-best_falls (suc k) v b l h = grind (arith, nat_tests)
+best_falls k v b l h = grind (arith, nat_tests)
 
 -- a reading that is not lower than the best before it leaves the best
 pub best_stays : (k : ℕ) (v b : Vertex) → 1 ≤ k → b.cost ≤ v.cost → best_after k v b ≡ b
-best_stays zero v b l h = absurd (omega arith)
-best_stays (suc k) v b l h = grind (arith, nat_tests)
+best_stays k v b l h = grind (arith, nat_tests)
 
 -- where the best is first among vertices, the best after a reading is first with that reading among them
 pub leads_on : (vs : List Vertex) (v b : Vertex) (k : ℕ) → 1 ≤ k → Leads vs b → Leads (insert v vs) (best_after k v b)
@@ -109,11 +106,13 @@ best_after_lem : (rs : List Vertex) (v b : Vertex) (k : ℕ) → k ≡ length rs
 best_after_lem rs v b zero e h = best_first rs v (sym e)
 best_after_lem rs v b (suc k) e h =
     let was = h (omega arith) in
-    better_elim (Best (rs ▹ v)) (replaces v b) (λ t. best_new rs v b was (grind (arith, nat_tests))) (λ t. best_old rs v b was (grind (arith, nat_tests)))
+    ⊎_elim
+    (λ g. rw (best_falls (suc k) v b (omega arith) g) (best_new rs v b was g))
+    (λ g. rw (best_stays (suc k) v b (omega arith) g) (best_old rs v b was g))
+    (cases_lt v.cost b.cost)
 
 low_after : (k : ℕ) (v b : Vertex) → v.cost ≤ max_cost → b.cost ≤ max_cost → (best_after k v b).cost ≤ max_cost
-low_after zero v b h g = h
-low_after (suc k) v b h g = grind (arith, nat_tests)
+low_after k v b h g = grind (arith, nat_tests)
 
 -- the best is one of the readings
 pub best_mem : (rs : List Vertex) (b : Vertex) → Best rs b → Memᴰ b rs

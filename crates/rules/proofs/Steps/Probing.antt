@@ -1,48 +1,72 @@
 -- A reading of a probe round. Assumes nothing.
-use mathlib.Core.Path.{refl}
+use mathlib.Core.Path.{◌≡◌, refl}
+use mathlib.Core.Bool.{false}
 use mathlib.Core.List.Memᴰ
 use mathlib.Core.List.{List, [], ◌∷◌}
 use Prim.Native.Nat.{ℕ, ◌+◌, ◌*◌, ◌≤◌, ◌<◌}
 use native.Mathlib.Omega.{arith}
 use Rattle.std.proofs.lemmas.Bool.Decides.{nat_tests}
-use Rattle.rules.specs.Simplex.{Ordered}
-use Rattle.rules.specs.Accept.{probed_once, best_after, noted, with_counts, restarted, is_full, probe_missed, ends_round, probed_on}
+use Rattle.std.proofs.lemmas.Bool.{cond_both}
+use Rattle.rules.specs.Simplex.{pack, Ordered}
+use Rattle.rules.specs.View.{is_ended, is_probe}
+use Rattle.rules.specs.Count.{told_in}
+use Rattle.rules.specs.Decide.{is_full, ends_round, decided}
+use Rattle.rules.specs.Accept.{best_after}
 use Rattle.rules.specs.declared.Vertex.{Vertex}
 use Rattle.rules.specs.declared.Search.{Search}
-use Rattle.rules.proofs.Laws.Tests.{pick_elim}
-use Rattle.rules.proofs.Steps.Invariant.{Known, Leads, Idle, Inv}
+use Rattle.rules.specs.declared.Phase.{Phase}
+use Rattle.rules.specs.declared.Phase.TheVariants.{Building, Probing, Ended}
+use Rattle.rules.specs.declared.Cause.TheVariants.{Settled}
+use Rattle.rules.specs.declared.Keeping.TheVariants.{Nothing}
+use Rattle.rules.specs.declared.Decision.TheVariants.{Go, Restart}
+use Rattle.rules.proofs.Steps.Invariant.{Known, Leads, Idle, AtBuild, At, Inv}
 use Rattle.rules.proofs.Steps.Noting.{◌▹◌, NotedWith, known_new, best_falls, best_stays}
-use Rattle.rules.proofs.Steps.Stepping.{TakesReading}
-use Rattle.rules.proofs.Steps.Moving.{probes_on}
+use Rattle.rules.proofs.Steps.Stepping.{NoRound, Goes, step}
+use Rattle.rules.proofs.Steps.Moving.{goes, go_step}
 use Rattle.rules.proofs.Steps.Iterating.{gathers_more}
 
-module _ (rs : List Vertex) (v : Vertex) (s : Search) (inv : Inv rs s) (after : NotedWith v rs s)
-    (p : ℕ) (idle : Idle 0 inv.gs s.readings s.counts) (leads : Leads inv.vs s.best) (low : p < 2 * s.setup.n) where
-  abbrev probed_search : Search
-  probed_search = with_counts (probed_once s.counts) (noted v s)
+module _ (rs : List Vertex) (v : Vertex) (s : Search) (inv : Inv rs s) (after : NotedWith v rs s) (live : is_ended s.phase ≡ false)
+    (p : ℕ) (now : s.phase ≡ Probing p) (idle : Idle 0 inv.gs s.readings s.counts) (leads : Leads inv.vs s.best) (low : p < 2 * s.setup.n) where
+  -- a probe is never open
+  still_closed : (told_in s.phase s.counts).unfinished ≡ 0
+  still_closed = rw now (omega (arith, idle.unfinished))
+
+  -- this reading is a probe, after which a round may go on
+  is_one : (q : Phase) → is_probe s.phase ≡ 0 → NoRound q
+  is_one q e = let one : is_probe s.phase ≡ 1 = rw now in absurd (omega arith)
 
   -- a lower one begins a build around it
-  restarts : v.cost < s.best.cost → TakesReading (rs ▹ v) [] 1 s (restarted v probed_search)
+  restarts : v.cost < s.best.cost → Goes rs v s Restart
   unfolding Ordered
   restarts l =
       let known : Known (v ∷ []) (rs ▹ v) = λ w m. Memᴰ.cast (Memᴰ.eq_of_singleton m) (known_new rs v) in
       let e = best_falls s.readings v s.best idle.some l in
-      probes_on rs v s inv after _ (v ∷ []) _ _ (record { are = refl; known = known }) idle.some idle.unfinished
-      (record { high = omega (arith, after.sane.at_least); many = refl; sorted = (tt, tt); leads = λ m. rw e; unfinished = omega (arith, idle.unfinished); first = λ q. absurd (omega (arith, idle.stood)); again = λ m. omega arith; some = λ m. omega arith })
+      let built : AtBuild 1 s.setup.n (v ∷ []) (s.readings + 1) (told_in s.phase s.counts) (best_after s.readings v s.best) =
+      record {
+        high = omega (arith, after.sane.at_least);
+        many = refl;
+        sorted = (tt, tt);
+        leads = λ m. rw e;
+        unfinished = still_closed;
+        first = λ q. absurd (omega (arith, idle.stood));
+        again = λ m. omega arith;
+        some = λ m. omega arith;
+      } in
+      step rs v s Restart (Building 1) refl after (goes rs v s inv after live (Building 1) (v ∷ []) (pack (v ∷ [])) (record { are = refl; known = known }) built (is_one (Building 1)))
+
+  -- the round goes on, or has settled the search
+  misses : (next : Phase) → At next s.setup s.standing inv.vs inv.gs (s.readings + 1) (told_in s.phase s.counts) (best_after s.readings v s.best) → Goes rs v s (Go Nothing next)
+  misses next here = go_step rs v s inv after live Nothing next inv.gs (gathers_more rs v s inv after live) here (is_one next)
 
   -- a probe that is not lower leads to the next one, or settles the search
-  misses : s.best.cost ≤ v.cost → TakesReading (rs ▹ v) [] 1 s (probe_missed p probed_search)
-  misses l =
-      let still : Idle 0 inv.gs (s.readings + 1) (probed_once s.counts) = record { stood = idle.stood; some = omega arith; empty = idle.empty; unfinished = idle.unfinished } in
-      let first : Leads inv.vs (best_after s.readings v s.best) = rw (best_stays s.readings v s.best idle.some l) leads in
-      let more = gathers_more rs v s inv after in
-      pick_elim (TakesReading (rs ▹ v) [] 1 s) (is_full p s)
-      (λ e. probes_on rs v s inv after _ inv.gs _ _ more idle.some idle.unfinished tt)
-      (λ e. probes_on rs v s inv after _ inv.gs _ _ more idle.some idle.unfinished (still, first, grind (arith, nat_tests)))
-
-  pub probe_step_lem : TakesReading (rs ▹ v) [] 1 s (probed_on p s.best.cost v (noted v s))
-  unfolding probed_on
+  pub probe_step_lem : Goes rs v s (decided (Probing p) s v.cost)
+  unfolding decided
   probe_step_lem =
-      pick_elim (TakesReading (rs ▹ v) [] 1 s) (ends_round v.cost s.best.cost)
+      let still : Idle 0 inv.gs (s.readings + 1) (told_in s.phase s.counts) = record { stood = idle.stood; some = omega arith; empty = idle.empty; unfinished = still_closed } in
+      let first : s.best.cost ≤ v.cost → Leads inv.vs (best_after s.readings v s.best) = λ l. rw (best_stays s.readings v s.best idle.some l) leads in
+      cond_both (ends_round v.cost s) _ _ (Goes rs v s)
       (λ e. restarts (grind (arith, nat_tests)))
-      (λ e. misses (grind (arith, nat_tests)))
+      (λ e.
+      cond_both (is_full p s) _ _ (Goes rs v s)
+      (λ f. misses (Ended Settled) tt)
+      (λ f. misses (Probing (p + 1)) (still, first (grind (arith, nat_tests)), grind (arith, nat_tests))))

@@ -1,18 +1,21 @@
--- What one accepted reading does, in a form that every phase's proof fills in. Assumes nothing.
-use mathlib.Core.Path.{◌≡◌, refl, sym}
-use mathlib.Core.Bool.{Bool, true, false, cond}
+-- What one accepted reading does, by its decision. Assumes nothing.
+use mathlib.Core.Path.{◌≡◌, refl, ap}
+use mathlib.Core.Bool.{Bool, false, cond}
 use mathlib.Core.List.Memᴰ
 use mathlib.Core.List.{List, [], ◌∷◌, map}
-use Prim.Native.Nat.{ℕ, zero, suc, ◌+◌, ◌≤◌}
+use Prim.Native.Nat.{ℕ, suc, ◌+◌, ◌≤◌, ◌<◌}
 use native.Mathlib.Omega.{arith}
 use lib.ListN.{length}
 use lib.Dec.{eqb}
-use lib.Ieee.{Float}
-use borrow.Author.Tests.{ne_eqb}
+use Rattle.std.proofs.lemmas.Bool.Decides.{nat_tests}
+use Rattle.std.proofs.lemmas.Bool.{cond_both}
 use Rattle.rules.specs.Simplex.{pack, unpack, cost_of, Ordered}
+use Rattle.rules.specs.View.{is_ended, is_probe}
+use Rattle.rules.specs.Count.{told_in, counted}
 use Rattle.rules.specs.Stop.{total}
-use Rattle.rules.specs.Accept.{Piece, build, reflection, expansion, contraction, shrink, counted, best_after, noted, tested_phase, met, finished}
-use Rattle.rules.specs.Calls.{standing_of}
+use Rattle.rules.specs.Decide.{finished_by}
+use Rattle.rules.specs.Accept.{entrant, replaced, joined, standing_after, gathered_after, is_spent, spent_phase, counts_after, best_after, acted}
+use Rattle.rules.specs.Calls.{standing_in, standing_of}
 use Rattle.rules.specs.Tally.{count_of, is_open}
 use Rattle.rules.specs.declared.Vertex.{Vertex}
 use Rattle.rules.specs.declared.Simplex.{Simplex}
@@ -20,51 +23,21 @@ use Rattle.rules.specs.declared.Counts.{Counts}
 use Rattle.rules.specs.declared.Setup.{Setup}
 use Rattle.rules.specs.declared.Search.{Search}
 use Rattle.rules.specs.declared.Phase.{Phase}
-use Rattle.rules.specs.declared.Phase.TheVariants.{Probing, Ended}
+use Rattle.rules.specs.declared.Phase.TheVariants.{Reflecting, Probing, Ended}
 use Rattle.rules.specs.declared.Cause.TheVariants.{Settled}
+use Rattle.rules.specs.declared.Piece.{Piece}
+use Rattle.rules.specs.declared.Piece.TheVariants.{Build, Reflection, Expansion, Contraction, Shrink}
+use Rattle.rules.specs.declared.Newcomer.{Newcomer}
+use Rattle.rules.specs.declared.Decision.{Decision}
+use Rattle.rules.specs.declared.Decision.TheVariants.{Take, Stand}
+use Rattle.rules.proofs.Laws.Tests.{spent_elim, spent_ends}
 use Rattle.rules.proofs.Laws.Places.{Whole, unpack_pack}
+use Rattle.rules.proofs.Laws.Finishing.{pieces_by}
 use Rattle.rules.proofs.Steps.Invariant.{Known, Leads, Noted, Stands, Gathers, Equation, Idle, At, Inv}
 use Rattle.rules.proofs.Steps.Noting.{◌▹◌, NotedWith}
+use Rattle.rules.proofs.Steps.Counting.{Counted, counted_by, readings_in, closes, equation_told}
 
--- the counts after the pieces of a list, and after so many probes
-pub record Counted (ps : List Piece) (probe : ℕ) (c d : Counts) : Type 0 where
-  pub builds : d.builds ≡ c.builds + count_of build ps
-  pub reflections : d.reflections ≡ c.reflections + count_of reflection ps
-  pub expansions : d.expansions ≡ c.expansions + count_of expansion ps
-  pub contractions : d.contractions ≡ c.contractions + count_of contraction ps
-  pub shrinks : d.shrinks ≡ c.shrinks + count_of shrink ps
-  pub probes : d.probes ≡ c.probes + probe
-
-pub counted_one : (p : Piece) (c : Counts) → Counted (p ∷ []) 0 c (counted p c)
-unfolding count_of
-counted_one build c = omega arith
-counted_one reflection c = omega arith
-counted_one expansion c = omega arith
-counted_one contraction c = omega arith
-counted_one shrink c = omega arith
-
-pub closed_unfinished : (p : Piece) (c : Counts) → (counted p c).unfinished ≡ 0
-closed_unfinished build c = refl
-closed_unfinished reflection c = refl
-closed_unfinished expansion c = refl
-closed_unfinished contraction c = refl
-closed_unfinished shrink c = refl
-
--- how many readings a finished piece has taken
-abbrev pub readings_in : ℕ → Piece → ℕ
-readings_in n build = n
-readings_in n reflection = 1
-readings_in n expansion = 2
-readings_in n contraction = 2
-readings_in n shrink = n + 2
-
--- the reading that finishes a piece keeps the equation
-pub closes : (p : Piece) (n k : ℕ) (c : Counts) → Equation n k c → 1 ≤ k → c.unfinished + 1 ≡ readings_in n p → Equation n (k + 1) (counted p c)
-closes build n k c h l e = omega arith
-closes reflection n k c h l e = omega arith
-closes expansion n k c h l e = omega arith
-closes contraction n k c h l e = omega arith
-closes shrink n k c h l e = omega arith
+-- ---- one reading
 
 -- the sum of the standing costs
 abbrev pub standing_costs : Search → ℕ
@@ -72,7 +45,7 @@ standing_costs s = total (map cost_of (standing_of s))
 
 -- the other iterations among the pieces
 abbrev pub others_in : List Piece → ℕ
-others_in ps = count_of reflection ps + count_of expansion ps + count_of contraction ps
+others_in ps = count_of Reflection ps + count_of Expansion ps + count_of Contraction ps
 
 -- a phase that does not go on from a probe: no round is under way, and none has settled the search
 abbrev pub NoRound : Phase → Type 0
@@ -80,73 +53,131 @@ NoRound (Probing (suc p)) = ⊥
 NoRound (Ended Settled) = ⊥
 NoRound p = Unit {0}
 
+-- a search that has not ended has readings left
+abbrev pub BelowBudget : Search → Type 0
+BelowBudget s = is_ended s.phase ≡ false → s.readings < s.setup.budget
+
 -- s takes a reading and becomes u: rs are its readings then, ps the pieces finished, probe tells whether it was a probe
 pub record TakesReading (rs : List Vertex) (ps : List Piece) (probe : ℕ) (s u : Search) : Type 0 where
   pub inv : Inv rs u
+  pub below : BelowBudget u
   pub kept : u.setup ≡ s.setup
   pub counts : Counted ps probe s.counts u.counts
   pub unfinished : u.counts.unfinished ≡ cond (is_open ps probe s.readings) (s.counts.unfinished + 1) 0
-  pub falls : count_of build ps ≡ 0 → count_of shrink ps ≡ 0 → others_in ps + standing_costs u ≤ standing_costs s
+  pub falls : count_of Build ps ≡ 0 → count_of Shrink ps ≡ 0 → others_in ps + standing_costs u ≤ standing_costs s
   pub first : (ps ≡ [] → ⊥) → Leads (standing_of u) u.best
   pub no_round : probe ≡ 0 → NoRound u.phase
 
--- the pieces of a step, by an equation
-pub pieces_are : {rs : List Vertex} {ps qs : List Piece} {probe : ℕ} {s u : Search} → ps ≡ qs → TakesReading rs qs probe s u → TakesReading rs ps probe s u
-pieces_are e h = rw e h
+-- the reading v is taken as the decision d says
+abbrev pub Goes : List Vertex → Vertex → Search → Decision → Type 0
+Goes rs v s d = TakesReading (rs ▹ v) (pieces_by d) (is_probe s.phase) s (acted d v s)
 
--- ---- the standing simplex is the list that the invariant names
+-- ---- the places hold the vertices that the invariant names
 
-pub whole : {rs vs : List Vertex} {t : Setup} {k : ℕ} {b : Vertex} → Noted rs t k b → Known vs rs → Whole vs
-whole h g v m = (h.shapes v (g v m)).eight
+module _ {rs vs : List Vertex} {t : Setup} where
+  -- vertices that were read have points of eight numbers
+  pub whole : {k : ℕ} {b : Vertex} → Noted rs t k b → Known vs rs → Whole vs
+  whole h g v m = (h.shapes v (g v m)).eight
 
-pub standing_are : (rs vs : List Vertex) (t : Setup) (k : ℕ) (b : Vertex) (builds : ℕ) (standing : Simplex) → Noted rs t k b → Stands rs vs t builds standing
-    → cond (eqb builds 0) [] (unpack (t.n + 1) standing) ≡ vs
-standing_are rs vs t k b zero standing h g = sym (g.none refl)
-standing_are rs vs t k b (suc m) standing h g =
-    let n : length vs ≡ t.n + 1 = g.all (omega arith) in
-    rw (ne_eqb (suc m) 0 (λ q. omega arith), g.are, ← n) (unpack_pack vs (whole h g.known))
+  -- they are found again in their places
+  pub places_are : {k : ℕ} {b : Vertex} {places : Simplex} (i : ℕ) → Noted rs t k b → Known vs rs → places ≡ pack vs → length vs ≡ i → unpack i places ≡ vs
+  places_are i h g e l = rw (e, ← l) (unpack_pack vs (whole h g))
 
-pub gathered_are : (rs gs : List Vertex) (t : Setup) (k : ℕ) (b : Vertex) (gathered : Simplex) (i : ℕ) → Noted rs t k b → Gathers rs gs gathered → length gs ≡ i → unpack i gathered ≡ gs
-gathered_are rs gs t k b gathered i h g e = rw (g.are, ← e) (unpack_pack gs (whole h g.known))
+  -- as many stand as the rules say
+  pub standing_many : {builds : ℕ} {standing : Simplex} → Stands rs vs t builds standing → length vs ≡ standing_in t.n builds
+  standing_many {builds} h = cond_both (eqb builds 0) _ _ (λ (m : ℕ). length vs ≡ m) (λ e. ap length (h.none (grind (arith, nat_tests)))) (λ e. h.all (grind (arith, nat_tests)))
 
--- ---- the end of a build or an iteration
+  standing_are : {k : ℕ} {b : Vertex} {builds : ℕ} {standing : Simplex} → Noted rs t k b → Stands rs vs t builds standing → unpack (standing_in t.n builds) standing ≡ vs
+  standing_are {builds} h g = places_are (standing_in t.n builds) h g.known g.are (standing_many g)
 
-tested_no_round : (b : Bool) → NoRound (tested_phase b)
-tested_no_round true = tt
-tested_no_round false = tt
+-- so the standing simplex is the list that the invariant names
+pub standing_list : (rs : List Vertex) (s : Search) (inv : Inv rs s) → standing_of s ≡ inv.vs
+standing_list rs s inv = standing_are inv.noted inv.stands
 
-module _ (rs : List Vertex) (v : Vertex) (s : Search) (p : Piece) (old new : List (List Float)) (vs : List Vertex) where
-  tested : (b : Bool) (k : ℕ) (c : Counts) (best : Vertex) (standing : Simplex) → 1 ≤ s.setup.n → Idle 0 [] k c → Leads vs best → At (tested_phase b) s.setup standing vs [] k c best
-  tested true k c best standing l h g = (h, g, omega arith)
-  tested false k c best standing l h g = (h, g)
+-- ---- any decision
 
-  pub finish : (after : NotedWith v rs s)
-      → length vs ≡ s.setup.n + 1 → Ordered vs → Known vs (rs ▹ v) → Leads vs (best_after s.readings v s.best)
-      → Equation s.setup.n s.readings s.counts → 1 ≤ s.readings → s.counts.unfinished + 1 ≡ readings_in s.setup.n p → 1 ≤ (counted p s.counts).builds
-      → (count_of build (p ∷ []) ≡ 0 → count_of shrink (p ∷ []) ≡ 0 → others_in (p ∷ []) + total (map cost_of vs) ≤ standing_costs s)
-      → TakesReading (rs ▹ v) (p ∷ []) 0 s (finished p old new vs (noted v s))
-  unfolding finished
-  finish after many sorted known leads equation some unfinished stood falls =
-      let c = counted p s.counts in
+-- the parts that a decision leaves, each with its fact: next is the phase but for the budget, ps are the pieces that it finishes
+pub record Parts (rs : List Vertex) (v : Vertex) (s : Search) (standing gathered : Simplex) (next : Phase) (c : Counts) (ps : List Piece) : Type 0 where
+  pub vs : List Vertex
+  pub gs : List Vertex
+  pub stands : Stands (rs ▹ v) vs s.setup c.builds standing
+  pub gathers : Gathers (rs ▹ v) gs gathered
+  pub equation : Equation s.setup.n (s.readings + 1) c
+  pub phase : At next s.setup standing vs gs (s.readings + 1) c (best_after s.readings v s.best)
+  pub unfinished : c.unfinished ≡ cond (is_open ps (is_probe s.phase) s.readings) (s.counts.unfinished + 1) 0
+  pub falls : count_of Build ps ≡ 0 → count_of Shrink ps ≡ 0 → others_in ps + total (map cost_of vs) ≤ standing_costs s
+  pub first : (ps ≡ [] → ⊥) → Leads vs (best_after s.readings v s.best)
+  pub no_round : is_probe s.phase ≡ 0 → NoRound next
+
+-- the parts of the decision d
+abbrev pub PartsOf : List Vertex → Vertex → Search → Decision → Phase → Type 0
+PartsOf rs v s d next = let u = entrant d v s in Parts rs v s (standing_after d u s) (gathered_after d u s) next (counts_after d s) (pieces_by d)
+
+-- they make the step; the budget is tested here and nowhere else
+pub step : (rs : List Vertex) (v : Vertex) (s : Search) (d : Decision) (next : Phase) → (acted d v s).phase ≡ spent_phase (is_spent s) next
+    → NotedWith v rs s → PartsOf rs v s d next → Goes rs v s d
+step rs v s d next e after h =
+    let c = counts_after d s in
+    let u = entrant d v s in
+    let best = best_after s.readings v s.best in
+    let are = standing_are after h.stands in
+    let P : Phase → Type 0 = λ p. At p s.setup (standing_after d u s) h.vs h.gs (s.readings + 1) c best in
+    record {
+      inv =
+          record {
+            vs = h.vs;
+            gs = h.gs;
+            noted = after;
+            stands = h.stands;
+            gathers = h.gathers;
+            equation = h.equation;
+            phase = rw e (spent_elim P (is_spent s) next (λ q l. grind (arith, nat_tests)) h.phase);
+          };
+      below = rw e (λ l. grind (arith, nat_tests, spent_ends (is_spent s) next l, after.below));
+      kept = refl;
+      counts = counted_by (finished_by d) s.phase s.counts;
+      unfinished = h.unfinished;
+      falls = λ a b. rw are (h.falls a b);
+      first = λ l. rw are (h.first l);
+      no_round = λ q. rw e (spent_elim NoRound (is_spent s) next (λ b l. tt) (h.no_round q));
+    }
+
+-- ---- the end of a piece: Take and Stand
+
+-- the vertices vs stand, and the readings of the piece p are told
+pub record Ending (rs : List Vertex) (v : Vertex) (s : Search) (p : Piece) (vs : List Vertex) : Type 0 where
+  pub many : length vs ≡ s.setup.n + 1
+  pub sorted : Ordered vs
+  pub known : Known vs (rs ▹ v)
+  pub leads : Leads vs (best_after s.readings v s.best)
+  pub unfinished : (told_in s.phase s.counts).unfinished ≡ readings_in s.setup.n p
+  pub stood : 1 ≤ (counted p (told_in s.phase s.counts)).builds
+  pub falls : count_of Build (p ∷ []) ≡ 0 → count_of Shrink (p ∷ []) ≡ 0 → others_in (p ∷ []) + total (map cost_of vs) ≤ standing_costs s
+
+module _ (rs : List Vertex) (v : Vertex) (s : Search) (inv : Inv rs s) (after : NotedWith v rs s) (live : is_ended s.phase ≡ false) (p : Piece) where
+  -- whether the rule is met or not
+  finish : (vs : List Vertex) (met : Bool) → Ending rs v s p vs → Parts rs v s (pack vs) (pack []) (cond met (Probing 0) Reflecting) (counted p (told_in s.phase s.counts)) (p ∷ [])
+  finish vs met h =
+      let c = counted p (told_in s.phase s.counts) in
       let best = best_after s.readings v s.best in
-      let stands : Stands (rs ▹ v) vs s.setup c.builds (pack vs) = record { are = refl; none = λ e. absurd (omega arith); all = λ l. many; sorted = sorted; known = known } in
-      let are = standing_are (rs ▹ v) vs s.setup (s.readings + 1) best c.builds (pack vs) after stands in
-      let idle : Idle 0 [] (s.readings + 1) c = record { stood = stood; some = omega arith; empty = refl; unfinished = closed_unfinished p s.counts } in
+      let idle : Idle 0 [] (s.readings + 1) c = record { stood = h.stood; some = omega arith; empty = refl; unfinished = refl } in
       record {
-        inv =
-            record {
-              vs = vs;
-              gs = [];
-              noted = after;
-              stands = stands;
-              gathers = record { are = refl; known = λ w m. absurd (Memᴰ.not-nil m) };
-              equation = closes p s.setup.n s.readings s.counts equation some unfinished;
-              phase = tested (met s.setup.rule s.setup.n p old new vs) (s.readings + 1) c best (pack vs) after.sane.at_least idle leads;
-            };
-        kept = refl;
-        counts = counted_one p s.counts;
-        unfinished = closed_unfinished p s.counts;
-        falls = λ a b. rw are (falls a b);
-        first = λ l. rw are leads;
-        no_round = λ e. tested_no_round (met s.setup.rule s.setup.n p old new vs);
+        vs = vs;
+        gs = [];
+        stands = record { are = refl; none = λ e. absurd (omega (arith, h.stood)); all = λ l. h.many; sorted = h.sorted; known = h.known };
+        gathers = record { are = refl; known = λ w m. absurd (Memᴰ.not-nil m) };
+        equation = closes p s.setup.n (s.readings + 1) (told_in s.phase s.counts) (equation_told rs s inv live) h.unfinished;
+        phase = cond_both met _ _ (λ (q : Phase). At q s.setup (pack vs) vs [] (s.readings + 1) c best) (λ e. (idle, h.leads, omega (arith, after.sane.at_least))) (λ e. (idle, h.leads));
+        unfinished = refl;
+        falls = h.falls;
+        first = λ l. h.leads;
+        no_round = λ e. cond_both met _ _ NoRound (λ e. tt) (λ e. tt);
       }
+
+  -- the newcomer replaces w
+  pub take_step : (who : Newcomer) → Ending rs v s p (replaced (entrant (Take p who) v s) s) → Goes rs v s (Take p who)
+  take_step who h = step rs v s (Take p who) (cond _ (Probing 0) Reflecting) refl after (finish _ _ h)
+
+  -- the gathered vertices stand, the trial among them
+  pub stand_step : Ending rs v s p (joined v s) → Goes rs v s (Stand p)
+  stand_step h = step rs v s (Stand p) (cond _ (Probing 0) Reflecting) refl after (finish _ _ h)

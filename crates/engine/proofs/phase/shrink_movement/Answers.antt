@@ -1,11 +1,12 @@
--- `engine::transition::shrink_movement` meets its contract, by what its loop keeps. Assumes nothing.
+-- `engine::phase::shrink_movement` meets its contract, by what its loop keeps. Assumes nothing.
 use Rattle.std.proofs.Common.{◌≡◌, ◌∙◌, ℕ, suc, List, Float, add-one, arith, length, rules, sym}
-use Rattle.rules.specs.Trial.{shrunk}
-use Rattle.rules.specs.Simplex.{up_to, point, place}
+use Rattle.rules.specs.Trial.{point_in}
+use Rattle.rules.specs.declared.Phase.TheVariants.{Shrinking}
+use Rattle.rules.specs.Simplex.{up_to, place}
 use Rattle.rules.specs.Binary64.{0ᶠ}
 use Rattle.rules.proofs.Laws.Lists.{length_up_to}
 use Rattle.engine.proofs.Laws.Stopping.{apart_take, movement_more, rest_points}
-use Rattle.engine.proofs.transition.shrink_movement.Goals as goal
+use Rattle.engine.proofs.phase.shrink_movement.Goals as goal
 
 pub loop-k-preserved : goal.loop-k-preserved
 unfolding up_to
@@ -14,7 +15,7 @@ loop-k-preserved c =
     let n = s.setup.n in
     let k = c.loop-k.k in
     let f : ℕ → List Float = λ j. (place s.standing (suc j)).point in
-    let g : ℕ → List Float = λ j. point n (shrunk s.setup s.standing.points (suc j)) in
+    let g : ℕ → List Float = λ j. point_in (Shrinking (suc j)) s in
     let same : length (up_to f k) ≡ length (up_to g k) = length_up_to f k ∙ sym (length_up_to g k) in
     let eight : length c.point_at-old.result ≡ 8 = search rules in
     let far = c.distance-sum.ensures ∙ apart_take c.point_at-old.result c.trial-new.result c.loop-k.sum n (omega (arith, c.requires.high)) in

@@ -1,8 +1,0 @@
--- The loop of `engine::point::trial` keeps that out has the first a coordinates of the trial.
-use Rattle.std.proofs.Common.{◌≡◌}
-use Rattle.rules.specs.Simplex.{point}
-use Rattle.rules.specs.Trial.{asked}
-use Rattle.engine.proofs.point.trial.Given as goal
-
-abbrev pub invariant-loop-a : goal.invariant-loop-a
-invariant-loop-a l = l.out ≡ point l.a (asked l.s l.phase)

@@ -1,0 +1,9 @@
+-- The loop of `engine::trial::probed` keeps that out has the first a coordinates of the trial.
+use Rattle.std.proofs.Common.{◌≡◌}
+use Rattle.rules.specs.Simplex.{point}
+use Rattle.rules.specs.Trial.{asked}
+use Rattle.rules.specs.declared.Phase.TheVariants.{Probing}
+use Rattle.engine.proofs.trial.probed.Given as goal
+
+abbrev pub invariant-loop-a : goal.invariant-loop-a
+invariant-loop-a l = l.out ≡ point l.a (asked l.s (Probing l.p))

@@ -1,0 +1,141 @@
+// The trial of each phase: one loop over the axes for each of them, so that no axis asks for the phase again, and the centroid once for all axes.
+// Each coordinate is clamped to its axis.
+ghost use Rattle.std.specs.Prelude.{◌≡◌, ◌≤◌, ◌<◌};
+ghost use Rattle.rules.specs.Simplex.{point};
+ghost use Rattle.rules.specs.Trial.{centroid, clamped, toward_reflected, toward_worst, point_in};
+ghost use Rattle.rules.specs.declared.Phase.TheVariants.{Building, Reflecting, Shrinking, Probing};
+ghost use Rattle.engine.specs.Ready.{Askable};
+
+use super::centroid::centroid;
+use super::float::{clamp, moved_from};
+use super::point::{build_step, probe_step};
+use rules::{Phase, Search, Side};
+
+// Trial i of a build.
+#[tactic(auto, using(crate::proofs::Laws::Filling::point_more), unfolding(rules::specs::Simplex::up_to))]
+fn built(s: &Search, i: usize) -> [f64; 8]
+    requires { s.now.setup.n ≤ 8 }
+    ensures { result ≡ point_in (Building i) s.now }
+{
+    let n = s.setup.n;
+    let mut out = [0.0; 8];
+    for a in 0..n {
+        let x = &s.setup.axes[a];
+        out[a] = clamp(x, build_step(x, s.center[a], i, a));
+    }
+    out
+}
+
+// The reflected point.
+#[tactic(auto, using(crate::proofs::Laws::Filling::point_more), unfolding(rules::specs::Simplex::up_to))]
+fn reflected(s: &Search) -> [f64; 8]
+    requires { (1 ≤ s.now.setup.n) × (s.now.setup.n ≤ 8) }
+    ensures { result ≡ point_in Reflecting s.now }
+{
+    let n = s.setup.n;
+    let k = &s.setup.coefficients;
+    let points = &s.standing.points;
+    let c = centroid(points, n);
+    let mut out = [0.0; 8];
+    for a in 0..n {
+        let x = &s.setup.axes[a];
+        out[a] = clamp(x, moved_from(c[a], k.alpha, c[a], points[8 * n + a]));
+    }
+    out
+}
+
+// k times as far from c as r, towards it, on axis a, c being the centroid's coordinate. Here r is clamped.
+fn toward_reflected(s: &Search, k: f64, c: f64, a: usize) -> f64
+    requires { (s.now.setup.n ≤ 8) × (a < 8) × (c ≡ centroid s.now.setup.n s.now.standing.points a) }
+    ensures { result ≡ toward_reflected s.now.setup s.now.standing.points k a }
+{
+    let x = &s.setup.axes[a];
+    let w = s.standing.points[8 * s.setup.n + a];
+    let r = clamp(x, moved_from(c, s.setup.coefficients.alpha, c, w));
+    moved_from(c, k, r, c)
+}
+
+// The point k times as far from c as r: the expanded one and the outside one.
+#[tactic(auto, using(crate::proofs::Laws::Filling::point_more), unfolding(rules::specs::Simplex::up_to))]
+fn along(s: &Search, k: f64) -> [f64; 8]
+    requires { (1 ≤ s.now.setup.n) × (s.now.setup.n ≤ 8) }
+    ensures { result ≡ point s.now.setup.n (λ a. clamped s.now.setup a (toward_reflected s.now.setup s.now.standing.points k a)) }
+{
+    let n = s.setup.n;
+    let c = centroid(&s.standing.points, n);
+    let mut out = [0.0; 8];
+    for a in 0..n {
+        out[a] = clamp(&s.setup.axes[a], toward_reflected(s, k, c[a], a));
+    }
+    out
+}
+
+// The inside point.
+#[tactic(auto, using(crate::proofs::Laws::Filling::point_more), unfolding(rules::specs::Simplex::up_to))]
+fn inside(s: &Search) -> [f64; 8]
+    requires { (1 ≤ s.now.setup.n) × (s.now.setup.n ≤ 8) }
+    ensures { result ≡ point s.now.setup.n (λ a. clamped s.now.setup a (toward_worst s.now.setup s.now.standing.points a)) }
+{
+    let n = s.setup.n;
+    let k = &s.setup.coefficients;
+    let points = &s.standing.points;
+    let c = centroid(points, n);
+    let mut out = [0.0; 8];
+    for a in 0..n {
+        let x = &s.setup.axes[a];
+        out[a] = clamp(x, moved_from(c[a], k.beta, points[8 * n + a], c[a]));
+    }
+    out
+}
+
+// The point that a shrink asks for place j, counted from 0.
+#[tactic(auto, using(crate::proofs::Laws::Filling::point_more), unfolding(rules::specs::Simplex::up_to))]
+fn shrunk(s: &Search, j: usize) -> [f64; 8]
+    requires { (j ≤ s.now.setup.n) × (s.now.setup.n ≤ 8) }
+    ensures { result ≡ point_in (Shrinking j) s.now }
+{
+    let n = s.setup.n;
+    let k = &s.setup.coefficients;
+    let points = &s.standing.points;
+    let mut out = [0.0; 8];
+    for a in 0..n {
+        let x = &s.setup.axes[a];
+        out[a] = clamp(
+            x,
+            moved_from(points[a], k.sigma, points[8 * j + a], points[a]),
+        );
+    }
+    out
+}
+
+// Probe p of a round.
+#[tactic(auto, using(crate::proofs::Laws::Filling::point_more), unfolding(rules::specs::Simplex::up_to))]
+fn probed(s: &Search, p: usize) -> [f64; 8]
+    requires { s.now.setup.n ≤ 8 }
+    ensures { result ≡ point_in (Probing p) s.now }
+{
+    let n = s.setup.n;
+    let mut out = [0.0; 8];
+    for a in 0..n {
+        let x = &s.setup.axes[a];
+        out[a] = clamp(x, probe_step(x, s.best.point[a], p, a));
+    }
+    out
+}
+
+// The point that the search would ask in this phase. One that has ended would ask none, and `Askable` rules it out.
+pub(super) fn trial(s: &Search, phase: Phase) -> [f64; 8]
+    requires { Askable s.now phase }
+    ensures { result ≡ point_in phase s.now }
+{
+    match phase {
+        Phase::Building(i) => built(s, i),
+        Phase::Reflecting => reflected(s),
+        Phase::Expanding(_) => along(s, s.setup.coefficients.chi),
+        Phase::Contracting(Side::Outside, _) => along(s, s.setup.coefficients.beta),
+        Phase::Contracting(Side::Inside, _) => inside(s),
+        Phase::Shrinking(j) => shrunk(s, j),
+        Phase::Probing(p) => probed(s, p),
+        Phase::Ended(_) => [0.0; 8],
+    }
+}

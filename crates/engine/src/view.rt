@@ -1,0 +1,56 @@
+// What a phase is, apart from its own trial and its own row of the table.
+ghost use Rattle.std.specs.Prelude.{◌≡◌};
+ghost use Rattle.rules.specs.View.{view, is_ended, gathered_in, is_probe, open_by};
+
+use rules::{Phase, View};
+
+// A build, an iteration, a probe round or the end. A new phase is placed here.
+fn view(phase: Phase) -> View
+    ensures { result ≡ view phase }
+{
+    match phase {
+        Phase::Building(i) => View::Builds(i),
+        Phase::Reflecting | Phase::Expanding(_) | Phase::Contracting(_, _) => View::Iterates(0),
+        Phase::Shrinking(j) => View::Iterates(j),
+        Phase::Probing(p) => View::Probes(p),
+        Phase::Ended(cause) => View::Over(cause),
+    }
+}
+
+// Whether the search has ended.
+pub(super) fn is_ended(phase: Phase) -> bool
+    ensures { result ≡ is_ended phase }
+{
+    matches!(view(phase), View::Over(_))
+}
+
+// How many vertices the unfinished build or shrink has gathered.
+pub(super) fn gathered_in(phase: Phase) -> usize
+    ensures { result ≡ gathered_in phase }
+{
+    match view(phase) {
+        View::Builds(k) | View::Iterates(k) => k,
+        View::Probes(_) | View::Over(_) => 0,
+    }
+}
+
+// What a reading told in this phase adds to the probes.
+pub(super) fn is_probe(phase: Phase) -> u64
+    ensures { result ≡ is_probe phase }
+{
+    match view(phase) {
+        View::Probes(_) => 1,
+        _ => 0,
+    }
+}
+
+// What it adds to the open readings, after so many builds: the very first reading is not open.
+pub(super) fn open_by(phase: Phase, builds: u64) -> u64
+    ensures { result ≡ open_by phase builds }
+{
+    match view(phase) {
+        View::Builds(i) if builds == 0 && i == 0 => 0,
+        View::Builds(_) | View::Iterates(_) => 1,
+        View::Probes(_) | View::Over(_) => 0,
+    }
+}

@@ -1,0 +1,33 @@
+-- "The phase is one of": what the rules ask of a phase apart from its own trial and its own row. A new phase is placed here once.
+use Rattle.std.specs.Prelude.{Bool, true, false, cond, ◌&&◌, ℕ, eqb}
+use Rattle.rules.specs.declared.Phase.{Phase}
+use Rattle.rules.specs.declared.Phase.TheVariants.{Building, Reflecting, Expanding, Contracting, Shrinking, Probing, Ended}
+use Rattle.rules.specs.declared.View.{View}
+use Rattle.rules.specs.declared.View.TheVariants.{Builds, Iterates, Probes, Over}
+
+-- what each phase is: a build, an iteration, a probe round or the end
+abbrev pub view : Phase → View
+view (Building i) = Builds i
+view Reflecting = Iterates 0
+view (Expanding f) = Iterates 0
+view (Contracting side f) = Iterates 0
+view (Shrinking j) = Iterates j
+view (Probing p) = Probes p
+view (Ended cause) = Over cause
+
+-- "search ended"
+abbrev pub is_ended : Phase → Bool
+is_ended p = elim (view p) [ Builds i ↦ false | Iterates k ↦ false | Probes q ↦ false | Over cause ↦ true ]
+
+-- how many vertices the unfinished build or shrink has gathered
+abbrev pub gathered_in : Phase → ℕ
+gathered_in p = elim (view p) [ Builds i ↦ i | Iterates k ↦ k | Probes q ↦ 0 | Over cause ↦ 0 ]
+
+-- what a reading told in this phase adds to Probes: "Probes counts probe readings"
+abbrev pub is_probe : Phase → ℕ
+is_probe p = elim (view p) [ Builds i ↦ 0 | Iterates k ↦ 0 | Probes q ↦ 1 | Over cause ↦ 0 ]
+
+-- what it adds to Open, after b builds, if it ends no piece: "the readings told in the unfinished iteration or restart build; in the
+-- first build it leaves out the first reading"
+abbrev pub open_by : Phase → ℕ → ℕ
+open_by p b = elim (view p) [ Builds i ↦ cond (eqb b 0 && eqb i 0) 0 1 | Iterates k ↦ 1 | Probes q ↦ 0 | Over cause ↦ 0 ]
