@@ -1,4 +1,4 @@
-// The verdicts of the later calls: refusal 12, then 8 to 11. Where n ≤ 8 is asked for, `sound` has just tested it: no type holds it of a
+// The verdicts of the later calls: refusal 12, then 8 to 11. Where n ≤ 8 is asked for, `intact` has just tested it: no type holds it of a
 // search that may be made up.
 ghost use Rattle.std.specs.Prelude.{◌≡◌, ◌≤◌};
 ghost use Rattle.rules.specs.Calls.{sound_phase, standing_in, in_order, all_costs, sound_rule, sound_counts, intact, undamaged, ask_verdict, tell_verdict, best_verdict};

@@ -70,7 +70,7 @@ gathered_most n builds _ h = omega arith
 
 module _ (s : Search) (h : (intact s ≡ true) × (is_ended s.phase ≡ false)) where
   -- an intact search that has not ended has what every step needs
-  pub ready : Ready s
+  ready : Ready s
   unfolding sound
   ready =
       let k = simp and-eq-true_iff at h.0 in
@@ -88,12 +88,12 @@ module _ (s : Search) (h : (intact s ≡ true) × (is_ended s.phase ≡ false)) 
       }
 
   -- it has fewer readings than the largest budget
-  pub below : s.readings < max_budget
+  below : s.readings < max_budget
   unfolding sound
   below = let k = simp and-eq-true_iff at h.0 in omega (arith, leb-true, ltb-true)
 
--- a search that is ready can be asked for its own trial, and for each of a phase that gathers nothing
-pub askable_now : (s : Search) → Ready s → Askable s s.phase
+-- a search that is ready can be asked for the trial of its own phase
+askable_now : (s : Search) → Ready s → Askable s s.phase
 askable_now s h = record { low = h.low; high = h.high; fits = gathered_most s.setup.n s.counts.builds s.phase h.phase; live = h.live }
 
 -- a search that is refused neither as damaged nor as ended is intact and has not ended
