@@ -6,7 +6,7 @@ use crate::types::{Point, Vertex};
 impl Search {
     /// The trial of a build that has so many vertices: its center, then that point with axis i changed.
     pub(crate) fn build_trial(&self, vertices: usize) -> Point {
-        let mut point = self.center;
+        let mut point = self.clamped(&self.center);
         if vertices > 0 {
             let i = vertices - 1;
             point[i] = self.stepped(i);
@@ -27,13 +27,13 @@ impl Search {
 
     /// Takes the reading of a build; the first reading of all is left out of open.
     pub(crate) fn tell_built(&mut self, reading: &Vertex) {
-        if self.gathered.size > 0 {
+        if self.vertices > 0 {
             self.counts.open += 1;
         }
-        self.gathered.enter(reading);
-        if self.gathered.size == self.n + 1 {
+        self.gather(reading);
+        if self.vertices == self.n + 1 {
             self.counts.builds += 1;
-            self.stand_gathered();
+            self.standing.clone_from(&self.gathered);
             self.finish(None);
         }
     }
@@ -41,13 +41,19 @@ impl Search {
     /// Starts a restart around a reading, whose cost is already known.
     pub(crate) fn restart(&mut self, known: &Vertex) {
         self.center = known.point;
-        self.gathered.enter(known);
+        self.gather_first(known);
         self.phase = Phase::Building;
     }
 
-    /// The gathered vertices become the standing simplex.
-    pub(crate) fn stand_gathered(&mut self) {
-        self.standing.clone_from(&self.gathered);
-        self.gathered.size = 0;
+    /// A vertex that is known begins a restart or a shrink.
+    pub(crate) fn gather_first(&mut self, known: &Vertex) {
+        self.vertices = 0;
+        self.gather(known);
+    }
+
+    /// A vertex joins those that are gathered.
+    pub(crate) fn gather(&mut self, vertex: &Vertex) {
+        self.gathered.enter(self.vertices, vertex);
+        self.vertices += 1;
     }
 }

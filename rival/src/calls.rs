@@ -28,13 +28,15 @@ impl Search {
         Ok(())
     }
 
-    /// The earliest reading of least cost.
+    /// The earliest reading of least cost, zeros past its n coordinates.
     pub fn best(&self) -> Result<Vertex, Refusal> {
         self.refuse_damaged()?;
         if self.readings == 0 {
             return Err(Refusal::numbered(11));
         }
-        Ok(self.best)
+        let mut best = self.best;
+        best.point.iter_mut().skip(self.n).for_each(|x| *x = 0.0);
+        Ok(best)
     }
 
     /// Whether the search has ended, by either cause.
@@ -56,8 +58,8 @@ impl Search {
             point: self.trial,
             cost,
         };
-        let lower = self.readings == 0 || cost < self.best.cost;
-        if lower {
+        let lower = cost < self.best.cost;
+        if lower || self.readings == 0 {
             self.best = reading;
         }
         self.readings += 1;
@@ -66,7 +68,7 @@ impl Search {
         self.set_trial();
     }
 
-    /// Hands a reading to its phase.
+    /// Hands a reading to its phase; a probe is told whether it is lower than the best was.
     fn advance(&mut self, reading: &Vertex, lower: bool) {
         match self.phase {
             Phase::Building => self.tell_built(reading),

@@ -13,14 +13,13 @@ impl Search {
         }
     }
 
-    /// Whether every test of refusal 12 passes.
+    /// Whether every test of refusal 12 passes. The orders are looked at last, when n and the vertices are known to be few.
     fn is_whole(&self) -> bool {
         self.numbers_hold()
             && self.phase_number_holds()
-            && self.standing.is_ordered()
-            && self.gathered.is_ordered()
-            && self.best.cost <= MAX_COST
-            && self.reflected.cost <= MAX_COST
+            && self.costs_hold()
+            && self.standing.is_ordered(self.standing_vertices())
+            && self.gathered.is_ordered(self.vertices)
     }
 
     /// Whether n, readings, counts, budget and a spread E are in their ranges.
@@ -33,17 +32,34 @@ impl Search {
             && !matches!(self.rule, Rule::Spread(e) if e > MAX_SPREAD)
     }
 
-    /// Whether the phase's vertex or probe number is one of that phase's trials, over a simplex that it can stand on.
+    /// Whether the phase's vertex or probe number is one of that phase's trials.
     fn phase_number_holds(&self) -> bool {
-        let vertices = self.gathered.size;
-        let full = self.standing.size == self.n + 1;
+        let vertices = self.vertices;
         match self.phase {
-            Phase::Building if self.counts.builds == 0 => {
-                self.standing.size == 0 && vertices <= self.n
-            }
-            Phase::Building | Phase::Shrinking => full && (1..=self.n).contains(&vertices),
-            Phase::Probing(told) => full && vertices == 0 && told < 2 * self.n,
-            _ => full && vertices == 0,
+            Phase::Building => vertices <= self.n && (vertices > 0 || self.counts.builds == 0),
+            Phase::Shrinking => (1..=self.n).contains(&vertices),
+            Phase::Probing(told) => told < 2 * self.n,
+            _ => true,
+        }
+    }
+
+    /// Whether no held cost is above 16,777,215.
+    fn costs_hold(&self) -> bool {
+        let fr = match self.phase {
+            Phase::Expanding | Phase::Contracting(_) => self.reflected.cost,
+            _ => 0,
+        };
+        self.standing.costs_hold()
+            && self.gathered.costs_hold()
+            && self.best.cost <= MAX_COST
+            && fr <= MAX_COST
+    }
+
+    /// The vertices of the standing simplex, none before the first build ends.
+    fn standing_vertices(&self) -> usize {
+        match self.counts.builds {
+            0 => 0,
+            _ => self.n + 1,
         }
     }
 }

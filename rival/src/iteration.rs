@@ -50,32 +50,32 @@ impl Search {
         }
     }
 
-    /// A taken point replaces w, and the iteration ends.
+    /// A taken point joins places 1 to n, so replaces w, and the iteration ends.
     fn take(&mut self, taken: &Vertex) {
         let moved = add_differences(0.0, self.n, self.worst(), &taken.point);
-        self.standing.replace_worst(taken);
+        self.standing.enter(self.n, taken);
         self.finish(Some(moved));
     }
 
-    /// A shrink keeps x1.
+    /// A shrink keeps x1, also where it has coordinates past n.
     fn start_shrink(&mut self) {
         let mut x1 = Vertex::ZERO;
         x1.point.copy_from_slice(&self.standing.points[..MAX_AXES]);
         x1.cost = self.standing.costs[0];
-        self.gathered.enter(&x1);
+        self.gather_first(&x1);
         self.moved = 0.0;
         self.phase = Phase::Shrinking;
     }
 
     /// Takes the reading of a shrunk vertex; the simplex is replaced when all n are told.
     pub(crate) fn tell_shrunk(&mut self, reading: &Vertex) {
-        let old = self.standing.point(self.gathered.size);
+        let old = self.standing.point(self.vertices);
         self.moved = add_differences(self.moved, self.n, old, &reading.point);
         self.counts.open += 1;
-        self.gathered.enter(reading);
-        if self.gathered.size == self.n + 1 {
+        self.gather(reading);
+        if self.vertices == self.n + 1 {
             self.counts.shrinks += 1;
-            self.stand_gathered();
+            self.standing.clone_from(&self.gathered);
             self.finish(Some(self.moved));
         }
     }

@@ -8,6 +8,7 @@ mod damage;
 mod iteration;
 mod moves;
 mod opening;
+mod parts;
 mod probing;
 pub mod replay;
 mod search;

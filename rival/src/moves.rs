@@ -18,12 +18,12 @@ impl Search {
         let c = &self.centroid;
         let r = &self.reflected.point;
         match self.phase {
-            Phase::Building => self.build_trial(self.gathered.size),
-            Phase::Reflecting => self.along(c, k.alpha, c, self.worst()),
+            Phase::Building => self.build_trial(self.vertices),
+            Phase::Reflecting => self.reflection(),
             Phase::Expanding => self.along(c, k.chi, r, c),
             Phase::Contracting(Side::Outside) => self.along(c, k.beta, r, c),
             Phase::Contracting(Side::Inside) => self.along(c, k.beta, self.worst(), c),
-            Phase::Shrinking => self.shrunk_trial(self.gathered.size),
+            Phase::Shrinking => self.shrunk_trial(self.vertices),
             Phase::Probing(told) => self.probe_trial(told),
             Phase::Ended(_) => ORIGIN,
         }
@@ -32,6 +32,21 @@ impl Search {
     /// w, the point at place n+1.
     pub(crate) fn worst(&self) -> &[f64] {
         self.standing.point(self.n)
+    }
+
+    /// The clamped point, zeros past its n coordinates.
+    pub(crate) fn clamped(&self, point: &Point) -> Point {
+        let mut clamped = ORIGIN;
+        for i in 0..self.n {
+            clamped[i] = self.axes[i].clamp(point[i]);
+        }
+        clamped
+    }
+
+    /// r = c + α·(c − w), from the centroid that is carried.
+    pub(crate) fn reflection(&self) -> Point {
+        let c = &self.centroid;
+        self.along(c, self.coefficients.alpha, c, self.worst())
     }
 
     /// base + factor·(tip − tail), clamped.
@@ -44,13 +59,13 @@ impl Search {
     }
 
     /// x1 + σ·(xi − x1), clamped, for the vertex at an index.
-    fn shrunk_trial(&self, index: usize) -> Point {
+    pub(crate) fn shrunk_trial(&self, index: usize) -> Point {
         let x1 = self.standing.point(0);
         self.along(x1, self.coefficients.sigma, self.standing.point(index), x1)
     }
 
     /// c: the sum of places 1 to n in place order, starting with place 1, divided by n.
-    fn centroid_of_standing(&self) -> Point {
+    pub(crate) fn centroid_of_standing(&self) -> Point {
         let mut c = ORIGIN;
         c.copy_from_slice(self.standing.point(0));
         for index in 1..self.n {

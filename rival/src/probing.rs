@@ -13,7 +13,7 @@ impl Search {
         let axis = &self.axes[i];
         let b = self.best.point[i];
         let d = axis.step * PROBE_FACTOR;
-        let mut point = self.best.point;
+        let mut point = self.clamped(&self.best.point);
         point[i] = axis.clamp(if told.is_multiple_of(2) { b + d } else { b - d });
         point
     }

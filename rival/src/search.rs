@@ -72,6 +72,19 @@ impl Counts {
             self.open,
         ]
     }
+
+    /// The counts in the same order, to be written.
+    pub(crate) fn in_order_mut(&mut self) -> [&mut u64; 7] {
+        [
+            &mut self.builds,
+            &mut self.reflections,
+            &mut self.expansions,
+            &mut self.contractions,
+            &mut self.shrinks,
+            &mut self.probes,
+            &mut self.open,
+        ]
+    }
 }
 
 /// A search, changed in place by each accepted tell.
@@ -99,6 +112,8 @@ pub struct Search {
     pub(crate) standing: Simplex,
     /// The vertices that an unfinished build or shrink has so far.
     pub(crate) gathered: Simplex,
+    /// How many they are; 0 in every other phase until the search ends.
+    pub(crate) vertices: usize,
     /// The point that the build is around.
     pub(crate) center: Point,
     /// c of the unfinished iteration.
@@ -131,6 +146,7 @@ impl Search {
             best: Vertex::ZERO,
             standing: Simplex::EMPTY,
             gathered: Simplex::EMPTY,
+            vertices: 0,
             center: ORIGIN,
             centroid: ORIGIN,
             reflected: Vertex::ZERO,

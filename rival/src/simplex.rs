@@ -5,15 +5,15 @@ use crate::types::{Vertex, MAX_AXES, MAX_COST};
 /// Vertices that a simplex has at most.
 pub(crate) const MAX_VERTICES: usize = MAX_AXES + 1;
 
-/// The points, in one flat run of 72 numbers, and the costs of the vertices.
+/// The points, in one flat run of 72 numbers, and the costs of nine places; those past its vertices are zeros.
 #[derive(Clone, Debug, PartialEq)]
 pub(crate) struct Simplex {
     /// Coordinates, eight for each vertex.
     pub(crate) points: [f64; MAX_VERTICES * MAX_AXES],
     /// Costs in place order.
     pub(crate) costs: [u64; MAX_VERTICES],
-    /// Vertices that it has so far.
-    pub(crate) size: usize,
+    /// The places from this index on are known to be zeros.
+    used: usize,
 }
 
 impl Simplex {
@@ -21,7 +21,7 @@ impl Simplex {
     pub(crate) const EMPTY: Simplex = Simplex {
         points: [0.0; MAX_VERTICES * MAX_AXES],
         costs: [0; MAX_VERTICES],
-        size: 0,
+        used: 0,
     };
 
     /// The eight coordinates of the vertex at an index.
@@ -29,20 +29,26 @@ impl Simplex {
         &self.points[index * MAX_AXES..(index + 1) * MAX_AXES]
     }
 
-    /// The costs of the vertices that it has.
-    pub(crate) fn told_costs(&self) -> &[u64] {
-        &self.costs[..self.size]
+    /// A newcomer joins the first so many vertices, and zeros follow.
+    pub(crate) fn enter(&mut self, vertices: usize, newcomer: &Vertex) {
+        self.clear_from(vertices);
+        self.insert(vertices, newcomer);
+        self.used = vertices + 1;
     }
 
-    /// A newcomer joins the vertices.
-    pub(crate) fn enter(&mut self, newcomer: &Vertex) {
-        self.insert(self.size, newcomer);
-        self.size += 1;
+    /// Only the first so many vertices stay, and zeros follow.
+    pub(crate) fn clear_from(&mut self, vertices: usize) {
+        if vertices < self.used {
+            self.points[vertices * MAX_AXES..self.used * MAX_AXES].fill(0.0);
+            self.costs[vertices..self.used].fill(0);
+            self.used = vertices;
+        }
     }
 
-    /// A taken point replaces w, the vertex at the last place.
-    pub(crate) fn replace_worst(&mut self, taken: &Vertex) {
-        self.insert(self.size - 1, taken);
+    /// Writes a cost, in order or not.
+    pub(crate) fn put_cost(&mut self, index: usize, cost: u64) {
+        self.costs[index] = cost;
+        self.used = self.used.max(index + 1);
     }
 
     /// Inserts a newcomer among the first `left` vertices, after all of equal cost; the index `left` is free.
@@ -69,12 +75,16 @@ impl Simplex {
         self.costs[index] = self.costs[index - 1];
     }
 
-    /// Whether its vertices stand in cost order and no cost is above 16,777,215.
-    pub(crate) fn is_ordered(&self) -> bool {
-        let Some(costs) = self.costs.get(..self.size) else {
-            return false;
-        };
-        costs.windows(2).all(|pair| pair[0] <= pair[1])
-            && costs.last().is_none_or(|&cost| cost <= MAX_COST)
+    /// Whether the first so many vertices stand in cost order.
+    #[inline]
+    pub(crate) fn is_ordered(&self, vertices: usize) -> bool {
+        let costs = &self.costs[..vertices];
+        costs.is_sorted()
+    }
+
+    /// Whether no cost is above 16,777,215, whose bits are all 1, at any of the nine places.
+    #[inline]
+    pub(crate) fn costs_hold(&self) -> bool {
+        self.costs.iter().fold(0, |bits, cost| bits | cost) <= MAX_COST
     }
 }

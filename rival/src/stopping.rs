@@ -4,9 +4,11 @@ use crate::search::{Phase, Search};
 use crate::types::Rule;
 
 impl Search {
-    /// Ends a build (moved by nothing) or an iteration: a probe round starts if the rule is met.
+    /// Ends a build (moved by nothing) or an iteration, nothing gathered: a probe round starts if the rule is met.
     pub(crate) fn finish(&mut self, moved: Option<f64>) {
         self.counts.open = 0;
+        self.gathered.clear_from(0);
+        self.vertices = 0;
         self.phase = if self.rule_is_met(moved) {
             Phase::Probing(0)
         } else {
@@ -29,7 +31,7 @@ impl Search {
         let m = n + 1;
         let mut sum: u128 = 0;
         let mut squares: u128 = 0;
-        for &cost in self.standing.told_costs() {
+        for &cost in &self.standing.costs[..=self.n] {
             sum += u128::from(cost);
             squares += u128::from(cost) * u128::from(cost);
         }

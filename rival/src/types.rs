@@ -12,7 +12,7 @@ pub(crate) const MAX_BUDGET: u64 = 1_000_000;
 /// The greatest E of a spread.
 pub(crate) const MAX_SPREAD: u64 = 4_294_967_295;
 
-/// A point; its coordinates past n are 0.
+/// A point; its coordinates past the n that it was asked with are 0.
 pub(crate) type Point = [f64; MAX_AXES];
 
 /// The point whose coordinates are all 0.
@@ -78,6 +78,36 @@ pub enum Rule {
     Moved(f64),
     /// How large the simplex is.
     Size(f64),
+}
+
+impl Rule {
+    /// The rule of a number from 1 to 3, its E as a script gives it; none of any other number.
+    pub(crate) fn numbered(number: u64, e: u64) -> Option<Rule> {
+        match number {
+            1 => Some(Rule::Spread(e)),
+            2 => Some(Rule::Moved(f64::from_bits(e))),
+            3 => Some(Rule::Size(f64::from_bits(e))),
+            _ => None,
+        }
+    }
+
+    /// The rule's number and its E, as a script gives them.
+    pub(crate) fn words(&self) -> [u64; 2] {
+        match self {
+            Rule::Spread(e) => [1, *e],
+            Rule::Moved(e) => [2, shown_bits(*e)],
+            Rule::Size(e) => [3, shown_bits(*e)],
+        }
+    }
+}
+
+/// The bits by which a float is shown: every NaN by the same.
+fn shown_bits(x: f64) -> u64 {
+    if x.is_nan() {
+        0x7ff8_0000_0000_0000
+    } else {
+        x.to_bits()
+    }
 }
 
 /// A refused call's number, with the axis, from 1, for numbers 2 to 4, else 0.

@@ -1,37 +1,8 @@
 //! Scripts of calls and their transcripts.
 
-/// The word of a whole number, a space before it.
-fn word(number: u64) -> String {
-    format!(" {number:016x}")
-}
+mod lines;
 
-/// The words of floats.
-fn floats(numbers: &[f64]) -> String {
-    numbers.iter().map(|x| word(x.to_bits())).collect()
-}
-
-/// A run of zero words.
-fn zeros(count: usize) -> String {
-    word(0).repeat(count)
-}
-
-/// An opening with the axis of the examples on the first n records, zeros past them.
-fn opening(n: u64, rule: u64, e: u64, budget: u64) -> String {
-    let axes = floats(&[-8.0, 8.0, 0.0, 1.0]).repeat(n as usize) + &zeros(32 - 4 * n as usize);
-    let coefficients = floats(&[1.0, 2.0, 0.5, 0.5]);
-    let first = word(n) + &word(rule) + &word(e);
-    format!("o{first}{coefficients}{}{axes}\n", word(budget))
-}
-
-/// A tell.
-fn tell(number: u64, cost: u64) -> String {
-    format!("t{}{}\n", word(number), word(cost))
-}
-
-/// The transcript of a script.
-fn transcript(script: &str) -> String {
-    String::from_utf8(rival::replay::transcript(script.as_bytes())).expect("ASCII")
-}
+use lines::*;
 
 #[test]
 fn example_of_the_format() {
@@ -55,8 +26,8 @@ fn calls_before_an_opening_meet_the_closed_search() {
         word(8),
         word(11),
         zeros(9),
-        word(8),
-        zeros(99)
+        zeros(1) + &word(1) + &zeros(38) + &word(8),
+        zeros(188)
     );
     assert_eq!(transcript(&format!("a\n{}b\ns\n", tell(1, 1))), expected);
 }
@@ -82,85 +53,13 @@ fn a_refused_opening_closes_the_search() {
     assert_eq!(transcript(&script), expected);
 }
 
-/// The state line of the two-axis example with rule spread 4 after costs.
-fn state(costs: &[u64]) -> String {
-    let mut script = opening(2, 1, 4, 100);
-    for (number, &cost) in (1..).zip(costs) {
-        script += &tell(number, cost);
-    }
-    let text = transcript(&(script + "s\n"));
-    text.lines().last().expect("a line").to_string()
-}
-
-/// A vertex of two axes on a state line.
-fn vertex(x: f64, y: f64, cost: u64) -> String {
-    floats(&[x, y]) + &zeros(6) + &word(cost)
-}
-
-/// A state line from its ten first words, the best reading and the standing vertices.
-fn expected_state(first: [u64; 10], best: &str, vertices: &[String]) -> String {
-    let first: String = first.iter().map(|&number| word(number)).collect();
-    let past = zeros(9 * (9 - vertices.len()));
-    format!("s{first}{best}{}{past}", vertices.concat())
-}
-
-#[test]
-fn states_of_the_example() {
-    let built = [
-        vertex(0.0, 1.0, 10),
-        vertex(1.0, 0.0, 20),
-        vertex(0.0, 0.0, 30),
-    ];
-    let ten = vertex(0.0, 1.0, 10);
-    let check = |costs: &[u64], first: [u64; 10], best: &str, vertices: &[String]| {
-        assert_eq!(state(costs), expected_state(first, best, vertices));
-    };
-    check(&[], [0; 10], &zeros(9), &[]);
-    let thirty = vertex(0.0, 0.0, 30);
-    check(&[30], [0, 1, 1, 0, 0, 0, 0, 0, 0, 0], &thirty, &[]);
-    let twenty = vertex(1.0, 0.0, 20);
-    check(&[30, 20], [0, 2, 2, 0, 0, 0, 0, 0, 0, 1], &twenty, &[]);
-    let p1 = [30, 20, 10];
-    check(&p1, [1, 0, 3, 1, 0, 0, 0, 0, 0, 0], &ten, &built);
-    let five = vertex(1.0, 1.0, 5);
-    let p3 = [30, 20, 10, 5];
-    check(&p3, [2, 5, 4, 1, 0, 0, 0, 0, 0, 1], &five, &built);
-    let p6 = [30, 20, 10, 20];
-    check(&p6, [3, 20, 4, 1, 0, 0, 0, 0, 0, 1], &ten, &built);
-    let p9 = [30, 20, 10, 31];
-    check(&p9, [4, 31, 4, 1, 0, 0, 0, 0, 0, 1], &ten, &built);
-    let p10 = [30, 20, 10, 31, 30];
-    check(&p10, [5, 1, 5, 1, 0, 0, 0, 0, 0, 2], &ten, &built);
-    let shrinking = [30, 20, 10, 31, 30, 40];
-    check(&shrinking, [5, 2, 6, 1, 0, 0, 0, 0, 0, 3], &ten, &built);
-}
-
-#[test]
-fn states_of_a_probe_round() {
-    let flat = [
-        vertex(0.0, 0.0, 7),
-        vertex(1.0, 0.0, 7),
-        vertex(0.0, 1.0, 7),
-    ];
-    let check = |costs: &[u64], first: [u64; 10], best: &str| {
-        assert_eq!(state(costs), expected_state(first, best, &flat));
-    };
-    let b = vertex(0.0, 0.0, 7);
-    check(&[7; 3], [6, 0, 3, 1, 0, 0, 0, 0, 0, 0], &b);
-    check(&[7; 5], [6, 2, 5, 1, 0, 0, 0, 0, 2, 0], &b);
-    check(&[7; 7], [7, 0, 7, 1, 0, 0, 0, 0, 4, 0], &b);
-    let lower = vertex(0.0009765625, 0.0, 6);
-    check(&[7, 7, 7, 6], [0, 1, 4, 1, 0, 0, 0, 0, 1, 0], &lower);
-    check(&[7, 7, 7, 6, 9], [0, 2, 5, 1, 0, 0, 0, 0, 1, 1], &lower);
-}
-
 #[test]
 fn every_rule_is_read() {
     // With one axis and costs 10, 10, only spread is met at the build; size 1 is met there too.
     let phase = |rule: u64, e: u64| {
         let script = opening(1, rule, e, 9) + &tell(1, 10) + &tell(2, 10) + "s\n";
-        let text = transcript(&script);
-        text.lines().last().expect("a line")[2..18].to_string()
+        let words = last_line(&script);
+        words.split(' ').nth(41).expect("a word").to_string()
     };
     assert_eq!(phase(0, 0), "0000000000000006");
     assert_eq!(phase(1, 1), "0000000000000006");
@@ -185,6 +84,17 @@ fn malformed_lines_end_the_transcript() {
         "\0\n".to_string(),
         format!("a{}\n", word(1)),
         format!("t{}\n", word(1)),
+        format!("p{}{}\n", word(0), word(0)),
+        write(0, 0, 1).replace('\n', " 0000000000000000\n"),
+        write(9, 0, 1),
+        write(u64::MAX, 0, 1),
+        write(0, 1, 1),
+        write(3, 0, 1),
+        write(3, 8, 1),
+        write(4, 9, 1),
+        write(6, 10, 1),
+        write(8, 0, 1),
+        write(8, (1 << 32) + 1, 1),
         format!("r{}\n", word(1)),
         format!("r{}{}\n", word(1), word(16_777_217)),
         format!("t{}{}{}\n", word(1), word(1), word(1)),

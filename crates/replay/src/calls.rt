@@ -1,4 +1,5 @@
 // The calls of a script, each with its answer.
+use super::parts;
 use super::script::Command;
 use super::series::{self, Total};
 use rules::{Asked, Refusal, Search, Vertex};
@@ -11,6 +12,7 @@ pub(super) enum Answer {
     Told(Result<(), Refusal>),
     Best(Result<Vertex, Refusal>),
     State(Search),
+    Put,
     Series(Result<Total, Refusal>),
 }
 
@@ -47,6 +49,10 @@ pub(super) fn make(search: &mut Search, command: Command) -> Answer {
         Command::Tell { number, cost } => Answer::Told(engine::tell(search, number, cost)),
         Command::Best => Answer::Best(engine::best(search)),
         Command::State => Answer::State(*search),
+        Command::Put(part) => {
+            parts::put(search, part);
+            Answer::Put
+        }
         Command::Series { n, readings } => Answer::Series(series::run(n, readings)),
     }
 }

@@ -6,6 +6,7 @@ use std::io;
 use std::io::{BufWriter, Read, Write};
 
 mod calls;
+mod parts;
 mod print;
 mod script;
 mod series;

@@ -2,7 +2,7 @@
 use super::calls::{Answer, axis_of, number_of};
 use super::series::Total;
 use numerals::bits_of;
-use rules::{Asked, Cause, Phase, Search, Side, Vertex};
+use rules::{Asked, Axis, Cause, Phase, Rule, Search, Setup, Side, Simplex, Vertex};
 use std::fmt::{Display, Formatter};
 use std::{fmt, io};
 
@@ -63,6 +63,7 @@ impl Display for Answer {
                 write!(f, "b{words}{}", Reading(&point, cost))
             }
             Answer::State(search) => state(f, search),
+            Answer::Put => write!(f, "p"),
             Answer::Series(total) => {
                 let Total { searches, sum } = total.unwrap_or_default();
                 write!(f, "r{}", Words(&[number_of(total), searches, sum]))
@@ -71,8 +72,48 @@ impl Display for Answer {
     }
 }
 
-// The state line: phase, counts, best reading and standing simplex.
-fn state<W: fmt::Write>(f: &mut Formatter<W>, search: &Search) -> fmt::Result {
+// A rule's number in docs/REPLAY.md, and its threshold as a word.
+fn ruled(rule: Rule) -> (u64, u64) {
+    match rule {
+        Rule::Spread(threshold) => (1, threshold),
+        Rule::Moved(threshold) => (2, bits_of(threshold)),
+        Rule::Size(threshold) => (3, bits_of(threshold)),
+    }
+}
+
+// An axis record as words.
+fn axis<W: fmt::Write>(f: &mut Formatter<W>, axis: &Axis) -> fmt::Result {
+    let Axis {
+        lo,
+        hi,
+        start,
+        step,
+    } = *axis;
+    let numbers = [lo, hi, start, step];
+    write!(f, "{}", Words(&numbers.map(bits_of)))
+}
+
+// What the opening fixed, in the words of an `o` line.
+fn setup<W: fmt::Write>(f: &mut Formatter<W>, setup: &Setup) -> fmt::Result {
+    let (kind, threshold) = ruled(setup.rule);
+    let by = setup.coefficients;
+    let coefficients = [by.alpha, by.chi, by.beta, by.sigma];
+    let first = [setup.n as u64, kind, threshold];
+    write!(
+        f,
+        "{}{}{}",
+        Words(&first),
+        Words(&coefficients.map(bits_of)),
+        Words(&[setup.budget])
+    )?;
+    for record in &setup.axes {
+        axis(f, record)?;
+    }
+    Ok(())
+}
+
+// Where the search stands: its phase, readings and counts.
+fn progress<W: fmt::Write>(f: &mut Formatter<W>, search: &Search) -> fmt::Result {
     let (phase, detail) = numbered(search.phase);
     let counts = &search.counts;
     let words = [
@@ -87,14 +128,27 @@ fn state<W: fmt::Write>(f: &mut Formatter<W>, search: &Search) -> fmt::Result {
         counts.probes,
         counts.unfinished,
     ];
-    let best = Reading(&search.best.point, search.best.cost);
-    write!(f, "s{}{best}", Words(&words))?;
-    let simplex = &search.standing;
+    write!(f, "{}", Words(&words))
+}
+
+// The nine places of a simplex.
+fn places<W: fmt::Write>(f: &mut Formatter<W>, simplex: &Simplex) -> fmt::Result {
     let (points, _) = simplex.points.as_chunks();
     for (point, cost) in points.iter().zip(&simplex.costs) {
         write!(f, "{}", Reading(point, *cost))?;
     }
     Ok(())
+}
+
+// The state line: every part of a search.
+fn state<W: fmt::Write>(f: &mut Formatter<W>, search: &Search) -> fmt::Result {
+    write!(f, "s")?;
+    setup(f, &search.setup)?;
+    progress(f, search)?;
+    let best = Reading(&search.best.point, search.best.cost);
+    write!(f, "{best}{}", Words(&search.center.map(bits_of)))?;
+    places(f, &search.standing)?;
+    places(f, &search.gathered)
 }
 
 // The line that says that the script's line of this number is malformed.

@@ -1,7 +1,8 @@
 // The lines of a script.
+use super::parts::{self, Part};
 use arrayvec::ArrayVec;
 use numerals::{float_of, from_digits};
-use rules::{Axis, Coefficients, Opening, Rule};
+use rules::{Axis, Coefficients, Opening};
 
 // What a line says. Letters and the kinds of a rule are matched once, here at the edge: a script is text.
 #[derive(Clone, Copy)]
@@ -11,6 +12,7 @@ pub(super) enum Command {
     Tell { number: u64, cost: u64 },
     Best,
     State,
+    Put(Part),
     Series { n: usize, readings: u64 },
 }
 
@@ -55,10 +57,7 @@ fn opening_of(words: &[u64]) -> Option<Opening> {
     let axes: [Axis; 8] = (*records.as_array()?).map(axis_of);
     let rule = match kind {
         0 => None,
-        1 => Some(Rule::Spread(threshold)),
-        2 => Some(Rule::Moved(float_of(threshold))),
-        3 => Some(Rule::Size(float_of(threshold))),
-        _ => return None,
+        _ => Some(parts::rule_of(kind, threshold)?),
     };
     let coefficients = Coefficients {
         alpha: float_of(alpha),
@@ -85,6 +84,7 @@ pub(super) fn command_of(line: &[u8]) -> Option<Command> {
         (b't', &[number, cost]) => Some(Command::Tell { number, cost }),
         (b'b', &[]) => Some(Command::Best),
         (b's', &[]) => Some(Command::State),
+        (b'p', &[part, which, value]) => parts::part_of(part, which, value).map(Command::Put),
         (b'r', &[n, readings]) if readings <= MOST_READINGS => Some(Command::Series {
             n: n as usize,
             readings,

@@ -5,5 +5,6 @@ pub mod Order
 pub mod Places
 pub mod Clamp
 pub mod Openings
+pub mod Refusing
 pub mod Histories
 pub mod Finishing

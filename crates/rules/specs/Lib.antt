@@ -11,6 +11,7 @@ pub mod Accept
 pub mod Refusals
 pub mod Opening
 pub mod Calls
+pub mod Precedence
 pub mod History
 pub mod Tally
 pub mod Claims
@@ -18,3 +19,8 @@ pub mod Examples
 pub mod Cases
 pub mod Answers
 pub mod Further
+pub mod Walks
+pub mod Thresholds
+pub mod Edges
+pub mod Parts
+pub mod Causes

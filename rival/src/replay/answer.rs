@@ -2,8 +2,8 @@
 
 use super::script::{Call, Opening};
 use super::series::{self, Series};
-use crate::search::{Cause, Phase, Search, Side};
-use crate::simplex::MAX_VERTICES;
+use crate::parts::Part;
+use crate::search::Search;
 use crate::text::{put_point, put_word};
 use crate::types::{Refusal, Trial, Vertex, ORIGIN};
 
@@ -15,6 +15,7 @@ pub(super) fn put(out: &mut Vec<u8>, search: &mut Search, call: &Call) {
         Call::Tell(number, cost) => put_tell(out, search, *number, *cost),
         Call::Best => put_best(out, search),
         Call::Show => put_state(out, search),
+        Call::Write(part, value) => put_written(out, search, *part, *value),
         Call::Series(n, readings) => put_series(out, *n, *readings),
     }
 }
@@ -67,6 +68,12 @@ fn put_best(out: &mut Vec<u8>, search: &Search) {
     put_word(out, best.cost);
 }
 
+/// Writes a part; there is no verdict.
+fn put_written(out: &mut Vec<u8>, search: &mut Search, part: Part, value: u64) {
+    search.write(part, value);
+    out.push(b'p');
+}
+
 /// Runs a series; a refused one gives zeros.
 fn put_series(out: &mut Vec<u8>, n: u64, readings: u64) {
     let (verdict, series) = verdict(series::run(n, readings), Series::default());
@@ -86,40 +93,8 @@ fn verdict<T>(answer: Result<T, Refusal>, refused: T) -> (u64, T) {
 
 /// Shows the state.
 fn put_state(out: &mut Vec<u8>, search: &Search) {
-    let (phase, detail) = phase_words(search);
     out.push(b's');
-    put_word(out, phase);
-    put_word(out, detail);
-    put_word(out, search.readings);
-    for count in search.counts.in_order() {
-        put_word(out, count);
-    }
-    put_point(out, &search.best.point);
-    put_word(out, search.best.cost);
-    put_simplex(out, search);
-}
-
-/// Shows places 1 to 9 of the standing simplex.
-fn put_simplex(out: &mut Vec<u8>, search: &Search) {
-    for index in 0..MAX_VERTICES {
-        put_point(out, search.standing.point(index));
-        put_word(out, search.standing.costs[index]);
-    }
-}
-
-/// The phase's word and its detail.
-fn phase_words(search: &Search) -> (u64, u64) {
-    let vertices = search.gathered.size as u64;
-    let fr = search.reflected.cost;
-    match search.phase {
-        Phase::Building => (0, vertices),
-        Phase::Reflecting => (1, 0),
-        Phase::Expanding => (2, fr),
-        Phase::Contracting(Side::Outside) => (3, fr),
-        Phase::Contracting(Side::Inside) => (4, fr),
-        Phase::Shrinking => (5, vertices),
-        Phase::Probing(told) => (6, told as u64),
-        Phase::Ended(Cause::Settled) => (7, 0),
-        Phase::Ended(Cause::Budget) => (8, 0),
+    for word in search.words() {
+        put_word(out, word);
     }
 }

@@ -26,14 +26,40 @@ pub fn transcript(script: &[u8]) -> Vec<u8> {
     out
 }
 
-/// Answers every line, each call handed the search that the call before left.
+/// Answers every line.
 fn answer_lines(text: &[u8], out: &mut Vec<u8>) -> Result<(), Malformed> {
-    let mut search = Search::closed();
+    let mut replay = Replay::default();
     let mut lines = Lines::new(text);
     while let Some(line) = lines.next_line()? {
-        let call = script::read(line).ok_or(lines.malformed())?;
-        answer::put(out, &mut search, &call);
-        out.push(b'\n');
+        replay.answer(line, out).ok_or(lines.malformed())?;
     }
     Ok(())
+}
+
+/// A script answered one line at a time, each line handed the search that the line before left.
+pub struct Replay {
+    search: Search,
+}
+
+impl Default for Replay {
+    fn default() -> Replay {
+        Replay {
+            search: Search::closed(),
+        }
+    }
+}
+
+impl Replay {
+    /// Prints the answer to a line without its newline; none if the line is malformed.
+    pub fn answer(&mut self, line: &[u8], out: &mut Vec<u8>) -> Option<()> {
+        let call = script::read(line)?;
+        answer::put(out, &mut self.search, &call);
+        out.push(b'\n');
+        Some(())
+    }
+
+    /// The search that the last line left.
+    pub fn search(&self) -> &Search {
+        &self.search
+    }
 }

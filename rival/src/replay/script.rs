@@ -1,6 +1,7 @@
 //! Reading one line of a script.
 
 use super::series;
+use crate::parts::Part;
 use crate::text::word;
 use crate::types::{Axis, Coefficients, Rule, MAX_AXES};
 
@@ -19,6 +20,8 @@ pub(super) enum Call {
     Best,
     /// Shows the state.
     Show,
+    /// Writes a part, with its value.
+    Write(Part, u64),
     /// Runs a series, with its axis count and its readings.
     Series(u64, u64),
 }
@@ -43,6 +46,7 @@ pub(super) fn read(line: &[u8]) -> Option<Call> {
         (b't', 2) => Some(Call::Tell(words[0], words[1])),
         (b'b', 0) => Some(Call::Best),
         (b's', 0) => Some(Call::Show),
+        (b'p', 3) => Part::numbered(words[0], words[1]).map(|part| Call::Write(part, words[2])),
         (b'r', 2) if words[1] <= series::LONGEST => Some(Call::Series(words[0], words[1])),
         _ => None,
     }
@@ -95,9 +99,6 @@ fn read_axis(record: &[u64]) -> Axis {
 fn read_rule(rule: u64, e: u64) -> Option<Option<Rule>> {
     match rule {
         0 => Some(None),
-        1 => Some(Some(Rule::Spread(e))),
-        2 => Some(Some(Rule::Moved(f64::from_bits(e)))),
-        3 => Some(Some(Rule::Size(f64::from_bits(e)))),
-        _ => None,
+        _ => Rule::numbered(rule, e).map(Some),
     }
 }

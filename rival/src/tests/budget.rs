@@ -95,7 +95,7 @@ fn first_build_leaves_the_first_reading_out_of_open() {
     assert_counts(&search, [0; 7]);
     tell_all(&mut search, &[20]);
     assert_counts(&search, [0, 0, 0, 0, 0, 0, 1]);
-    assert_eq!((search.phase, search.gathered.size), (Phase::Building, 2));
+    assert_eq!((search.phase, search.vertices), (Phase::Building, 2));
 }
 
 #[test]

@@ -1,8 +1,15 @@
-//! Refusal 12 on searches damaged by hand.
+//! Refusal 12: each part just past its edge, where every later call is refused, and at its edge, where the call is accepted.
 
 use super::*;
-use crate::search::{Cause, Phase};
 use crate::types::Refusal;
+
+/// A part's two words and its value.
+type Written = (u64, u64, u64);
+
+/// The example while it builds, two vertices gathered.
+fn building() -> Search {
+    after(example(), &[30, 20])
+}
 
 /// The example while it reflects.
 fn reflecting() -> Search {
@@ -19,75 +26,170 @@ fn probing() -> Search {
     after(example(), &[7, 7, 7])
 }
 
-/// Asserts that every later call on the damaged search is refused with 12 and changes nothing.
+/// Asserts that every later call is refused with 12 when a part is written, changes nothing, and is accepted when it is written back.
 #[track_caller]
-fn assert_refused(mut search: Search, damage: impl Fn(&mut Search)) {
-    assert!(search.ask().is_ok());
-    damage(&mut search);
-    let before = format!("{search:?}");
+fn assert_refused(mut search: Search, part: Written, back: Written) {
+    let (whole, trial) = (search.words(), search.ask());
+    assert!(trial.is_ok());
+    write(&mut search, part);
+    let before = search.words();
     let refused = Refusal::numbered(12);
     assert_eq!(search.ask(), Err(refused));
     assert_eq!(search.best(), Err(refused));
-    assert_eq!(search.tell(search.readings + 1, 1), Err(refused));
+    let number = search.readings.wrapping_add(1);
+    assert_eq!(search.tell(number, 1), Err(refused));
     assert_eq!(search.tell(0, u64::MAX), Err(refused));
-    assert_eq!(format!("{search:?}"), before);
+    assert_eq!(search.words(), before);
+    write(&mut search, back);
+    assert_eq!((search.words(), search.ask()), (whole, trial));
+}
+
+/// Asserts that no call is refused when a part is written.
+#[track_caller]
+fn assert_accepted(mut search: Search, part: Written) {
+    write(&mut search, part);
+    assert!(search.ask().is_ok());
+    assert!(search.best().is_ok());
+    assert_eq!(search.tell(search.readings + 1, 1), Ok(()));
 }
 
 #[test]
-fn numbers_out_of_range() {
-    assert_refused(reflecting(), |s| s.n = 0);
-    assert_refused(reflecting(), |s| s.n = 9);
-    assert_refused(reflecting(), |s| s.readings = s.budget);
-    assert_refused(reflecting(), |s| s.budget = 3);
-    assert_refused(reflecting(), |s| s.budget = 1_000_001);
-    assert_refused(reflecting(), |s| s.rule = Rule::Spread(4_294_967_296));
+fn axis_counts() {
+    for n in [0, 9, 1 << 32, u64::MAX] {
+        assert_refused(reflecting(), (0, 0, n), (0, 0, 2));
+        assert_refused(building(), (0, 0, n), (0, 0, 2));
+    }
+    assert_accepted(reflecting(), (0, 0, 1));
+    assert_accepted(building(), (0, 0, 8));
+    // Place 4 of the standing simplex is zeros.
+    assert_refused(reflecting(), (0, 0, 3), (0, 0, 2));
+}
+
+#[test]
+fn budgets_and_readings() {
+    for budget in [0, 3, 1_000_001, u64::MAX] {
+        assert_refused(reflecting(), (1, 0, budget), (1, 0, 100));
+    }
+    assert_accepted(reflecting(), (1, 0, 4));
+    assert_accepted(reflecting(), (1, 0, 1_000_000));
+    for readings in [100, 101, u64::MAX] {
+        assert_refused(reflecting(), (2, 0, readings), (2, 0, 3));
+    }
+    assert_accepted(reflecting(), (2, 0, 99));
 }
 
 #[test]
 fn counts_above_the_budget() {
-    assert_refused(reflecting(), |s| s.counts.builds = 101);
-    assert_refused(reflecting(), |s| s.counts.reflections = 101);
-    assert_refused(reflecting(), |s| s.counts.expansions = 101);
-    assert_refused(reflecting(), |s| s.counts.contractions = 101);
-    assert_refused(reflecting(), |s| s.counts.shrinks = 101);
-    assert_refused(reflecting(), |s| s.counts.probes = 101);
-    assert_refused(reflecting(), |s| s.counts.open = 101);
-    let mut search = reflecting();
-    search.counts.open = 100;
-    assert!(search.ask().is_ok());
+    for which in 1..=7 {
+        let back = u64::from(which == 1);
+        assert_refused(reflecting(), (3, which, 101), (3, which, back));
+        assert_refused(reflecting(), (3, which, u64::MAX), (3, which, back));
+        assert_accepted(reflecting(), (3, which, 100));
+    }
 }
 
 #[test]
-fn phase_numbers_outside_the_trials() {
-    assert_refused(example(), |s| s.gathered.size = 3);
-    assert_refused(shrinking(), |s| s.gathered.size = 0);
-    assert_refused(shrinking(), |s| s.gathered.size = 3);
-    assert_refused(shrinking(), |s| s.gathered.size = usize::MAX);
-    assert_refused(probing(), |s| s.phase = Phase::Probing(4));
-    assert_refused(reflecting(), |s| s.standing.size = 0);
-    assert_refused(reflecting(), |s| s.phase = Phase::Building);
-    assert_refused(reflecting(), |s| s.phase = Phase::Shrinking);
+fn thresholds() {
+    assert_refused(reflecting(), (8, 1, 4_294_967_296), (8, 1, 4));
+    assert_refused(reflecting(), (8, 1, u64::MAX), (8, 1, 4));
+    assert_accepted(reflecting(), (8, 1, 4_294_967_295));
+    assert_accepted(reflecting(), (8, 1, 0));
+    for e in [0, f64::NAN.to_bits(), u64::MAX, (-1.0f64).to_bits()] {
+        assert_accepted(reflecting(), (8, 2, e));
+        assert_accepted(reflecting(), (8, 3, e));
+    }
 }
 
 #[test]
-fn vertices_out_of_cost_order() {
-    assert_refused(reflecting(), |s| s.standing.costs.swap(0, 1));
-    assert_refused(shrinking(), |s| s.gathered.costs.swap(0, 1));
+fn vertices_of_a_build() {
+    assert_refused(building(), (4, 0, 3), (4, 0, 2));
+    assert_refused(building(), (4, 0, u64::MAX), (4, 0, 2));
+    assert_accepted(building(), (4, 0, 0));
+    assert_accepted(building(), (4, 0, 1));
+    // A finished build stands behind these.
+    assert_refused(reflecting(), (4, 0, 0), (4, 1, 0));
+    assert_refused(reflecting(), (4, 0, 3), (4, 1, 0));
+    assert_accepted(reflecting(), (4, 0, 1));
+    assert_accepted(reflecting(), (4, 0, 2));
+}
+
+#[test]
+fn vertices_of_a_shrink_and_probes() {
+    for detail in [0, 3, 9, 10, u64::MAX] {
+        assert_refused(shrinking(), (4, 5, detail), (4, 5, 2));
+    }
+    assert_accepted(shrinking(), (4, 5, 1));
+    assert_refused(probing(), (4, 6, 4), (4, 6, 0));
+    assert_refused(probing(), (4, 6, u64::MAX), (4, 6, 0));
+    assert_accepted(probing(), (4, 6, 3));
+}
+
+#[test]
+fn standing_vertices_out_of_cost_order() {
+    // Costs 10, 20, 30, of three vertices.
+    assert_refused(reflecting(), (5, 1, 21), (5, 1, 10));
+    assert_refused(reflecting(), (5, 2, 9), (5, 2, 20));
+    assert_refused(reflecting(), (5, 3, 19), (5, 3, 30));
+    assert_accepted(reflecting(), (5, 1, 20));
+    assert_accepted(reflecting(), (5, 2, 10));
+    assert_accepted(reflecting(), (5, 3, 20));
+    assert_accepted(reflecting(), (5, 4, 1));
+    assert_accepted(building(), (5, 1, 1));
+}
+
+#[test]
+fn gathered_vertices_out_of_cost_order() {
+    // Costs 9, 10, of two vertices.
+    assert_refused(shrinking(), (6, 1, 11), (6, 1, 9));
+    assert_refused(shrinking(), (6, 2, 8), (6, 2, 10));
+    assert_accepted(shrinking(), (6, 1, 10));
+    assert_accepted(shrinking(), (6, 2, 9));
+    assert_accepted(shrinking(), (6, 3, 1));
+    assert_refused(building(), (6, 1, 31), (6, 1, 20));
+    assert_accepted(reflecting(), (6, 1, 7));
 }
 
 #[test]
 fn held_costs_too_high() {
-    assert_refused(reflecting(), |s| s.standing.costs[2] = 16_777_216);
-    assert_refused(shrinking(), |s| s.gathered.costs[1] = 16_777_216);
-    assert_refused(reflecting(), |s| s.best.cost = 16_777_216);
-    assert_refused(reflecting(), |s| s.reflected.cost = 16_777_216);
+    let high = 16_777_216;
+    for search in [building(), reflecting(), shrinking(), probing()] {
+        for place in 1..=9 {
+            let at = place as usize - 1;
+            let back = search.standing.costs[at];
+            assert_refused(search.clone(), (5, place, high), (5, place, back));
+            let back = search.gathered.costs[at];
+            assert_refused(search.clone(), (6, place, high), (6, place, back));
+        }
+        let best = search.best.cost;
+        assert_refused(search.clone(), (7, 0, high), (7, 0, best));
+        assert_accepted(search, (7, 0, high - 1));
+    }
+    assert_accepted(reflecting(), (5, 3, high - 1));
+    assert_accepted(reflecting(), (5, 9, high - 1));
+    assert_accepted(reflecting(), (6, 1, high - 1));
+}
+
+#[test]
+fn costs_of_r() {
+    for (phase, told) in [(2, 5), (3, 20), (4, 30)] {
+        let search = after(reflecting(), &[told]);
+        for fr in [16_777_216, u64::MAX] {
+            assert_refused(search.clone(), (4, phase, fr), (4, phase, told));
+        }
+        assert_accepted(search, (4, phase, 16_777_215));
+    }
+    assert_accepted(reflecting(), (4, 1, u64::MAX));
 }
 
 #[test]
 fn an_ended_search_is_not_tested() {
     let mut search = reflecting();
-    search.phase = Phase::Ended(Cause::Budget);
-    search.n = 9;
-    assert_eq!(search.ask(), Err(Refusal::numbered(8)));
-    assert_best(&search, &[0.0, 1.0], 10);
+    for cause in [7, 8] {
+        write(&mut search, (4, cause, 5));
+        write(&mut search, (0, 0, u64::MAX));
+        write(&mut search, (5, 1, u64::MAX));
+        assert_eq!(search.ask(), Err(Refusal::numbered(8)));
+        assert_eq!(search.tell(4, 1), Err(Refusal::numbered(8)));
+        assert_best(&search, &[0.0, 1.0], 10);
+    }
 }

@@ -3,14 +3,6 @@
 use super::*;
 use crate::types::{Rule, MAX_COST};
 
-/// The next of a fixed run of made-up numbers.
-fn next(seed: &mut u64) -> u64 {
-    *seed = seed
-        .wrapping_mul(6_364_136_223_846_793_005)
-        .wrapping_add(1_442_695_040_888_963_407);
-    *seed >> 33
-}
-
 /// A made-up cost, of a kind that the seed chose.
 fn made_up(kind: u64, point: &Point, seed: &mut u64) -> u64 {
     let far = |center: f64| point.iter().map(|x| (x - center).abs()).sum::<f64>();
@@ -36,7 +28,7 @@ fn accounted(search: &Search) -> u64 {
 #[track_caller]
 fn assert_holds(search: &Search, least: u64) {
     assert_eq!(accounted(search), search.readings);
-    assert!(search.standing.is_ordered());
+    assert!(search.ask().is_ok() || search.has_ended());
     assert_eq!(search.best().expect("best").cost, least);
 }
 

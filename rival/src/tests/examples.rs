@@ -2,6 +2,7 @@
 
 use super::*;
 use crate::search::{Phase, Side};
+use crate::simplex::Simplex;
 
 /// The costs of P1.
 const P1: [u64; 3] = [30, 20, 10];
@@ -19,7 +20,7 @@ fn p1_first_build() {
     assert_trial(&search, 2, &[1.0, 0.0]);
     tell_all(&mut search, &[20]);
     assert_trial(&search, 3, &[0.0, 1.0]);
-    assert_eq!(search.standing.size, 0);
+    assert_eq!(search.standing, Simplex::EMPTY);
     tell_all(&mut search, &[10]);
     assert_place(&search, 1, &[0.0, 1.0], 10);
     assert_place(&search, 2, &[1.0, 0.0], 20);

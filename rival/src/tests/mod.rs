@@ -1,10 +1,12 @@
 //! Tests of the engine, with values worked by hand from document 01.
 
+mod any_parts;
 mod budget;
 mod damage;
 mod equation;
 mod examples;
 mod moves;
+mod parts;
 mod probing;
 mod refusals;
 mod stopping;
@@ -49,6 +51,20 @@ fn after(mut search: Search, costs: &[u64]) -> Search {
     search
 }
 
+/// The next of a fixed run of made-up numbers.
+fn next(seed: &mut u64) -> u64 {
+    *seed = seed
+        .wrapping_mul(6_364_136_223_846_793_005)
+        .wrapping_add(1_442_695_040_888_963_407);
+    *seed >> 33
+}
+
+/// Writes a part that is in the table, by its two words and its value.
+#[track_caller]
+fn write(search: &mut Search, (part, which, value): (u64, u64, u64)) {
+    assert!(search.write_part(part, which, value));
+}
+
 /// The coordinates with zeros past them.
 fn padded(coordinates: &[f64]) -> Point {
     let mut point = ORIGIN;
@@ -72,7 +88,7 @@ fn assert_trial(search: &Search, number: u64, coordinates: &[f64]) {
 /// Asserts a vertex of the standing simplex, by its place from 1.
 #[track_caller]
 fn assert_place(search: &Search, place: usize, coordinates: &[f64], cost: u64) {
-    assert!(place <= search.standing.size);
+    assert!(place <= search.n + 1);
     let index = place - 1;
     assert_eq!(
         bits(search.standing.point(index)),

@@ -31,7 +31,7 @@ fn a_lower_probe_restarts_then_settles() {
     tell_all(&mut search, &[4]);
     assert_trial(&search, 4, &[-D]);
     tell_all(&mut search, &[3]);
-    assert_eq!((search.phase, search.gathered.size), (Phase::Building, 1));
+    assert_eq!((search.phase, search.vertices), (Phase::Building, 1));
     assert_counts(&search, [1, 0, 0, 0, 0, 2, 0]);
     assert_trial(&search, 5, &[0.9990234375]);
     tell_all(&mut search, &[3]);
@@ -51,7 +51,7 @@ fn a_restart_builds_around_its_own_point() {
     let mut search = after(open(2, USUAL_AXIS, Rule::Spread(1), 100), &[7, 7, 7, 7, 3]);
     assert_trial(&search, 6, &[1.0 - D, 0.0]);
     tell_all(&mut search, &[2]);
-    assert_eq!((search.phase, search.gathered.size), (Phase::Building, 2));
+    assert_eq!((search.phase, search.vertices), (Phase::Building, 2));
     assert_counts(&search, [1, 0, 0, 0, 0, 2, 1]);
     assert_trial(&search, 7, &[-D, 1.0]);
     assert_place(&search, 1, &[0.0, 0.0], 7);

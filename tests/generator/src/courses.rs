@@ -97,7 +97,7 @@ fn loose(script: &mut Script, random: &mut Random) {
     }
 }
 
-/// Tells the cost of the trial, and shows the state after about every sixth tell and about an ending.
+/// Tells the cost of the trial, and shows the state after about every sixteenth tell and about an ending.
 fn measure(script: &mut Script, random: &mut Random, costs: &mut Costs) {
     let Some(trial) = script.trial() else {
         return;
@@ -112,8 +112,8 @@ fn measure(script: &mut Script, random: &mut Random, costs: &mut Costs) {
         script.show();
     }
     costs.tell(cost);
-    script.tell(script.told + 1, cost);
-    if random.one_in(6) {
+    script.tell(script.next_number(), cost);
+    if random.one_in(16) {
         script.show();
     }
 }
@@ -125,8 +125,9 @@ pub fn calls(script: &mut Script, random: &mut Random) {
             0..=9 => script.ask(),
             10..=19 => script.best(),
             20..=29 => refused(script, random),
-            30 => series(script, random),
-            _ => script.show(),
+            30..=34 => script.show(),
+            35..=38 => script.best(),
+            _ => series(script, random),
         }
     }
 }
@@ -147,14 +148,14 @@ pub fn series(script: &mut Script, random: &mut Random) {
 
 /// A tell that is refused: its number is wrong, its cost is too high, or both. Of a search that has ended, also one with nothing wrong.
 pub fn refused(script: &mut Script, random: &mut Random) {
-    let told = script.told;
+    let (told, next) = (script.told, script.next_number());
     let any = random.next();
     let wrong = random.pick(&[
         0,
         told,
-        told + 2,
+        told.wrapping_add(2),
         u64::MAX,
-        (1 << 32) + told + 1,
+        (1u64 << 32).wrapping_add(next),
         1 << 63,
         any,
     ]);
@@ -170,10 +171,10 @@ pub fn refused(script: &mut Script, random: &mut Random) {
     let cost = random.between(0, DARK);
     match random.below(3) {
         0 => script.tell(wrong, cost),
-        1 => script.tell(told + 1, high),
+        1 => script.tell(next, high),
         _ => script.tell(wrong, high),
     }
     if script.has_ended() && random.one_in(2) {
-        script.tell(told + 1, cost);
+        script.tell(next, cost);
     }
 }

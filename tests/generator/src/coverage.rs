@@ -1,4 +1,7 @@
-//! What a run covered, counted in the transcripts.
+//! What a run covered, counted in the scripts and their transcripts.
+
+use crate::causes::{Causes, Watch};
+use crate::state;
 
 /// Calls of one kind.
 #[derive(Clone, Default)]
@@ -44,7 +47,12 @@ pub struct Coverage {
     pub series: Calls,
     /// Searches that series opened.
     pub series_searches: u64,
-    /// `s` lines of opened searches by phase.
+    /// Lines that write a part.
+    pub written: u64,
+    /// Scripts whose malformed line is of that kind.
+    pub malformed_parts: u64,
+    pub causes: Causes,
+    /// `s` lines of opened searches by phase, while no part is written.
     pub phases: [u64; 9],
     /// Searches that were last shown ended, settled and by the budget.
     pub endings: [u64; 2],
@@ -65,13 +73,29 @@ pub struct Coverage {
 pub const ENDS: [&str; 3] = ["settled", "budget", "waiting"];
 
 impl Coverage {
-    pub fn add_script(&mut self, transcript: &[u8]) {
+    pub fn add_script(&mut self, script: &[u8], transcript: &[u8]) {
         self.scripts += 1;
         let mut shown = None;
         for line in transcript.split(|b| *b == b'\n') {
             self.add_line(line, &mut shown);
         }
         self.end_search(&mut shown);
+        if state::writes_parts(script) {
+            self.add_causes(script, transcript);
+        }
+    }
+
+    /// Reads a script and its transcript in step, one line of each, as far as no line is malformed.
+    fn add_causes(&mut self, script: &[u8], transcript: &[u8]) {
+        let mut watch = Watch::default();
+        let answers = transcript.split(|b| *b == b'\n');
+        for (line, answer) in script.split(|b| *b == b'\n').zip(answers) {
+            if line.is_empty() || line.first() != answer.first() {
+                self.malformed_parts += u64::from(line.first() == Some(&b'p'));
+                return;
+            }
+            watch.see(line, word(answer, 0), &mut self.causes);
+        }
     }
 
     fn add_line(&mut self, line: &[u8], shown: &mut Option<Shown>) {
@@ -83,6 +107,7 @@ impl Coverage {
             Some(b'b') => self.bests.add(verdict),
             Some(b's') => self.add_state(line, shown),
             Some(b'r') => self.add_series(line),
+            Some(b'p') => self.add_written(shown),
             Some(b'x') => self.malformed += 1,
             _ => {}
         }
@@ -103,11 +128,17 @@ impl Coverage {
         self.series_searches = self.series_searches.saturating_add(word(line, 1));
     }
 
+    /// A search of which a part is written no longer counts as one that calls made.
+    fn add_written(&mut self, shown: &mut Option<Shown>) {
+        self.written += 1;
+        *shown = None;
+    }
+
     /// Counts the phase and keeps the state, if a search is open; the closed search is left out.
     fn add_state(&mut self, line: &[u8], shown: &mut Option<Shown>) {
         if let Some(shown) = shown {
-            shown.phase = word(line, 0);
-            shown.counts = std::array::from_fn(|i| word(line, 3 + i));
+            shown.phase = word(line, 40);
+            shown.counts = std::array::from_fn(|i| word(line, 43 + i));
             add_at(&mut self.phases, shown.phase);
         }
     }
@@ -156,6 +187,9 @@ impl Coverage {
         self.bests.join(&other.bests);
         self.series.join(&other.series);
         self.series_searches = self.series_searches.saturating_add(other.series_searches);
+        self.written += other.written;
+        self.malformed_parts += other.malformed_parts;
+        self.causes.join(&other.causes);
         add_all(&mut self.phases, &other.phases);
         add_all(&mut self.endings, &other.endings);
         add_all(&mut self.pieces, &other.pieces);

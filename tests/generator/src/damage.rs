@@ -225,7 +225,7 @@ fn word_less(_: &mut Random, line: &mut Vec<u8>) {
 }
 
 fn other_letter(random: &mut Random, line: &mut Vec<u8>) {
-    let letter = random.pick(b"oatbsrxxxOATBSRc0z ");
+    let letter = random.pick(b"oatbsprxxxOATBSPRc0z ");
     line.iter_mut().take(1).for_each(|b| *b = letter);
 }
 

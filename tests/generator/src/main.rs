@@ -2,21 +2,27 @@
 
 mod axes;
 mod bowls;
+mod causes;
 mod costs;
 mod courses;
 mod coverage;
 mod damage;
 mod edges;
+mod episodes;
 mod malformed;
+mod mild;
 mod openings;
+mod parts;
 mod program;
 mod random;
 mod refusals;
 mod runner;
 mod script;
 mod scripts;
+mod state;
 mod summary;
 mod texts;
+mod writes;
 
 use runner::{Outcome, Run};
 use std::env;

@@ -4,27 +4,38 @@ use crate::courses::{self, Manner, LONGEST_SERIES};
 use crate::damage::damage;
 use crate::random::Random;
 use crate::script::Script;
+use crate::{parts, state};
 
 pub fn script(random: &mut Random) -> Vec<u8> {
-    let mut script = Script::new();
-    let tells = random.between(1, 15);
-    courses::course(&mut script, random, Manner::Loose, tells);
+    let mut script = plain(random);
     if random.one_in(12) {
         too_long_series(&mut script, random);
         return script.text.into_bytes();
     }
     let mut text = script.text.into_bytes();
-    match random.below(14) {
+    match random.below(16) {
         0 => text.clear(),
         1 => text = b"\n".to_vec(),
         2 | 3 => other_rule(random, &mut text),
         4..=8 => odd_line(random, &mut text),
+        9 | 10 => other_part(random, &mut text),
         _ => damage(random, &mut text),
     }
     if random.one_in(6) {
         damage(random, &mut text);
     }
-    text
+    state::fixed_part(text)
+}
+
+/// A short script that is not damaged yet; one in three writes parts.
+fn plain(random: &mut Random) -> Script {
+    if random.one_in(3) {
+        return parts::short(random);
+    }
+    let mut script = Script::new();
+    let tells = random.between(1, 15);
+    courses::course(&mut script, random, Manner::Loose, tells);
+    script
 }
 
 /// A series of more readings than any may have, which is no line of a script.
@@ -53,12 +64,45 @@ fn odd_line(random: &mut Random, text: &mut Vec<u8>) {
         b's',
         b't',
         b'r',
+        b'p',
         b'x',
     ]);
     let words = random.pick(&[0, 0, 1, 1, 2, 3, 4]);
     let mut line = vec![letter];
     line.extend(format!(" {:016x}", random.below(3)).repeat(words).bytes());
     line.push(b'\n');
+    insert_line(random, text, line);
+}
+
+/// A line that writes a part, or which of it, that is not in the table, or has a word too few or too many.
+fn other_part(random: &mut Random, text: &mut Vec<u8>) {
+    let edges = [
+        (0, 0),
+        (1, 0),
+        (2, 0),
+        (3, 7),
+        (4, 8),
+        (5, 9),
+        (6, 9),
+        (7, 0),
+        (8, 3),
+        (9, 0),
+    ];
+    let (part, most): (u64, u64) = random.pick(&edges);
+    let huge = random.pick(&[u64::MAX, 1 << 32, (1 << 32) + most, 1 << 63]);
+    let which = random.pick(&[most + 1, most + 1, 0, most, huge]);
+    let part = random.pick(&[part, part, part, (1 << 32) + part]);
+    let line = format!("p {part:016x} {which:016x} {:016x}", random.below(9));
+    let line = match random.below(6) {
+        0 => line[..35].to_string(),
+        1 => line + " 0000000000000000",
+        _ => line,
+    };
+    insert_line(random, text, (line + "\n").into_bytes());
+}
+
+/// A line more, anywhere.
+fn insert_line(random: &mut Random, text: &mut Vec<u8>, line: Vec<u8>) {
     let starts = (1..text.len()).filter(|at| text[at - 1] == b'\n');
     let starts: Vec<usize> = starts.chain([0, text.len()]).collect();
     let at = random.pick(&starts);

@@ -66,9 +66,9 @@ impl Case {
         }
     }
 
-    fn cover(&self, coverage: &mut Coverage, transcript: &[u8]) {
+    fn cover(&self, coverage: &mut Coverage, input: &[u8], transcript: &[u8]) {
         match self.kind {
-            Kind::Script => coverage.add_script(transcript),
+            Kind::Script => coverage.add_script(input, transcript),
             Kind::Text => coverage.add_text(transcript),
         }
     }
@@ -138,7 +138,7 @@ impl Run {
         let Ok((input, wanted)) = answered else {
             return Err(Difference::said("the rival stopped with a panic".into()));
         };
-        case.cover(coverage, &wanted);
+        case.cover(coverage, &input, &wanted);
         self.hold(case, tally, input, wanted)
     }
 

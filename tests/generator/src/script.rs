@@ -1,6 +1,7 @@
 //! A script as it grows, with the search that its calls have made so far.
 
 use crate::openings::Opening;
+use crate::state::{State, Written};
 use rival::{Search, Trial};
 
 /// The most bytes that are read.
@@ -10,6 +11,8 @@ pub struct Script {
     pub text: String,
     pub told: u64,
     search: Search,
+    /// Whether a part of the search was written.
+    made_up: bool,
 }
 
 impl Script {
@@ -18,6 +21,7 @@ impl Script {
             text: String::new(),
             told: 0,
             search: Search::closed(),
+            made_up: false,
         }
     }
 
@@ -25,18 +29,47 @@ impl Script {
     pub fn open(&mut self, opening: &Opening) -> bool {
         self.text.push_str(&opening.line());
         self.told = 0;
+        self.made_up = false;
         let opened = opening.open();
         let accepted = opened.is_ok();
         self.search = opened.unwrap_or_else(|_| Search::closed());
         accepted
     }
 
+    /// Puts a value into one part of the search.
+    pub fn write(&mut self, [part, which, value]: Written) {
+        self.text
+            .push_str(&format!("p {part:016x} {which:016x} {value:016x}\n"));
+        self.search.write_part(part, which, value);
+        self.made_up = true;
+        if part == 2 {
+            self.told = value;
+        }
+    }
+
+    pub fn search(&self) -> &Search {
+        &self.search
+    }
+
+    pub fn state(&self) -> State {
+        State::of(&self.search)
+    }
+
+    /// Whether the next call's answer is fixed. A call that has none is left out.
+    fn is_fixed(&self) -> bool {
+        !self.made_up || self.state().is_fixed()
+    }
+
     pub fn ask(&mut self) {
-        self.text.push_str("a\n");
+        if self.is_fixed() {
+            self.text.push_str("a\n");
+        }
     }
 
     pub fn best(&mut self) {
-        self.text.push_str("b\n");
+        if self.is_fixed() {
+            self.text.push_str("b\n");
+        }
     }
 
     pub fn show(&mut self) {
@@ -49,6 +82,9 @@ impl Script {
     }
 
     pub fn tell(&mut self, number: u64, cost: u64) {
+        if !self.is_fixed() {
+            return;
+        }
         self.text
             .push_str(&format!("t {number:016x} {cost:016x}\n"));
         if self.search.tell(number, cost).is_ok() {
@@ -56,9 +92,19 @@ impl Script {
         }
     }
 
-    /// The trial to be measured next, or none if the search has ended.
+    /// The reading number that a tell needs, as far as there is one.
+    pub fn next_number(&self) -> u64 {
+        self.told.wrapping_add(1)
+    }
+
+    /// The trial to be measured next, or none if the search has ended or is refused.
     pub fn trial(&self) -> Option<Trial> {
         self.search.ask().ok()
+    }
+
+    /// Whether the next tell of a sound cost is accepted, with an answer that is fixed.
+    pub fn goes_on(&self) -> bool {
+        self.trial().is_some() && self.is_fixed()
     }
 
     pub fn has_ended(&self) -> bool {
@@ -68,6 +114,6 @@ impl Script {
     /// Whether the search would end with this cost told next.
     pub fn would_end(&self, cost: u64) -> bool {
         let mut search = self.search.clone();
-        search.tell(self.told + 1, cost).is_ok() && search.has_ended()
+        search.tell(self.next_number(), cost).is_ok() && search.has_ended()
     }
 }

@@ -1,7 +1,8 @@
-//! Script number k of a seed. Scripts 0 and 1 are the longest that is read and one byte more; the others are of one of three kinds.
+//! Script number k of a seed. Scripts 0 and 1 are the longest that is read and one byte more; the others are of one of four kinds.
 
 use crate::courses::{self, Manner};
 use crate::malformed;
+use crate::parts;
 use crate::random::Random;
 use crate::refusals;
 use crate::script::{Script, LIMIT};
@@ -16,6 +17,7 @@ pub fn script(seed: u64, number: u64) -> Vec<u8> {
         _ => match random.below(100) {
             0..=21 => malformed::script(&mut random),
             22..=35 => openings(&mut random),
+            36..=51 => parts::script(&mut random).text.into_bytes(),
             _ => searches(&mut random),
         },
     }
@@ -82,7 +84,7 @@ fn few_tells(script: &mut Script, random: &mut Random) {
             break;
         }
         let cost = random.below(30);
-        script.tell(script.told + 1, cost);
+        script.tell(script.next_number(), cost);
     }
     script.ask();
     script.show();

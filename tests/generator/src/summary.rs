@@ -1,5 +1,6 @@
 //! The summary of what a run covered, and what the gate's run has to cover.
 
+use crate::causes::{Causes, CALLS, CAUSES};
 use crate::coverage::{Coverage, ENDS};
 
 const LEAST_TELLS: u64 = 200_000;
@@ -46,7 +47,28 @@ pub fn print(c: &Coverage) {
     println!("restarts {}", c.restarts);
     println!("finished {}", named(&PIECES, &c.pieces));
     println!("states shown {}", named(&PHASES, &c.phases));
+    print_causes(c);
     print_texts(c);
+}
+
+/// One line for each cause of refusal 12.
+fn print_causes(c: &Coverage) {
+    let calls = CALLS.join(", ");
+    println!(
+        "parts written {}, malformed such lines {}",
+        c.written, c.malformed_parts
+    );
+    let made_up = named(&PHASES, &c.causes.made_up);
+    println!("tells accepted after a part was written {made_up}");
+    println!("refusal 12 one past its edge at {calls}; accepted at its edge at {calls}");
+    let counts = c.causes.refused.iter().zip(&c.causes.accepted);
+    for (cause, (refused, accepted)) in CAUSES.iter().zip(counts) {
+        println!("  {cause:30} {}; {}", aligned(refused), aligned(accepted));
+    }
+}
+
+fn aligned(counts: &[u64]) -> String {
+    counts.iter().map(|count| format!("{count:6}")).collect()
 }
 
 fn print_texts(c: &Coverage) {
@@ -80,7 +102,13 @@ type Need = (String, u64, u64);
 
 /// What the gate's run has to cover and this one did not.
 pub fn missing(c: &Coverage) -> Vec<String> {
-    let needs = [refusals_needed(c), searches_needed(c), texts_needed(c)].concat();
+    let needs = [
+        refusals_needed(c),
+        causes_needed(&c.causes),
+        searches_needed(c),
+        texts_needed(c),
+    ]
+    .concat();
     let short = needs.iter().filter(|(_, count, least)| count < least);
     short
         .map(|(what, count, least)| format!("{what}: {count}, wanted {least}"))
@@ -99,7 +127,19 @@ fn each_name(what: &str, names: &[&str], counts: &[u64]) -> Vec<Need> {
     names.iter().zip(counts).map(need).collect()
 }
 
-/// Every refusal that a script can meet, 1 to 11.
+/// Every cause of refusal 12, one past its edge at each call, and its edge at ask and tell.
+fn causes_needed(causes: &Causes) -> Vec<Need> {
+    let mut needs = Vec::new();
+    let counts = causes.refused.iter().zip(&causes.accepted);
+    for (cause, (refused, accepted)) in CAUSES.iter().zip(counts) {
+        needs.extend(each_name(&format!("{cause}, refused at"), &CALLS, refused));
+        let edge = format!("{cause}, accepted at its edge at");
+        needs.extend(each_name(&edge, &CALLS[..2], accepted));
+    }
+    needs
+}
+
+/// Every refusal from 1 to 11 that a script can meet.
 fn refusals_needed(c: &Coverage) -> Vec<Need> {
     let openings = [1, 2, 3, 4, 5, 6, 7];
     let axes = [1, 2, 3, 4, 5, 6, 7, 8];
@@ -115,13 +155,25 @@ fn refusals_needed(c: &Coverage) -> Vec<Need> {
 }
 
 fn searches_needed(c: &Coverage) -> Vec<Need> {
-    let others = [c.restarts, c.series_searches, c.malformed];
+    let others = [
+        c.restarts,
+        c.series_searches,
+        c.malformed,
+        c.malformed_parts,
+    ];
+    let met = [
+        "restarts",
+        "series",
+        "malformed scripts",
+        "malformed lines that write a part",
+    ];
     [
         vec![("accepted tells".into(), c.tells.accepted, LEAST_TELLS)],
         each_name("searches ended", &ENDINGS, &c.endings),
         each_name("states shown", &PHASES, &c.phases),
         each_name("finished", &PIECES, &c.pieces),
-        each_name("met", &["restarts", "series", "malformed scripts"], &others),
+        each_name("met", &met, &others),
+        each_name("made-up searches told", &PHASES, &c.causes.made_up),
     ]
     .concat()
 }

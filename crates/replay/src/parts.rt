@@ -1,0 +1,128 @@
+// The parts of a search that a script can write, as no call would (docs/REPLAY.md).
+use numerals::float_of;
+use rules::{Cause, Counts, Phase, Rule, Search, Side};
+
+// One of the seven counts.
+#[derive(Clone, Copy)]
+pub(super) enum Count {
+    Builds,
+    Reflections,
+    Expansions,
+    Contractions,
+    Shrinks,
+    Probes,
+    Open,
+}
+
+// A part with what is written there. Places count from 0 here.
+#[derive(Clone, Copy)]
+pub(super) enum Part {
+    Axes(usize),
+    Budget(u64),
+    Readings(u64),
+    Count(Count, u64),
+    Phase(Phase),
+    Standing(usize, u64),
+    Gathered(usize, u64),
+    Best(u64),
+    Rule(Rule),
+}
+
+// The rule that a number names, with the threshold that a word says.
+pub(super) fn rule_of(kind: u64, threshold: u64) -> Option<Rule> {
+    match kind {
+        1 => Some(Rule::Spread(threshold)),
+        2 => Some(Rule::Moved(float_of(threshold))),
+        3 => Some(Rule::Size(float_of(threshold))),
+        _ => None,
+    }
+}
+
+// The phase of a number, with its detail where it has one.
+fn phase_of(kind: u64, detail: u64) -> Option<Phase> {
+    match kind {
+        0 => Some(Phase::Building(detail as usize)),
+        1 => Some(Phase::Reflecting),
+        2 => Some(Phase::Expanding(detail)),
+        3 => Some(Phase::Contracting(Side::Outside, detail)),
+        4 => Some(Phase::Contracting(Side::Inside, detail)),
+        5 => Some(Phase::Shrinking(detail as usize)),
+        6 => Some(Phase::Probing(detail as usize)),
+        7 => Some(Phase::Ended(Cause::Settled)),
+        8 => Some(Phase::Ended(Cause::Budget)),
+        _ => None,
+    }
+}
+
+// The count of a number, from 1.
+fn count_of(which: u64) -> Option<Count> {
+    match which {
+        1 => Some(Count::Builds),
+        2 => Some(Count::Reflections),
+        3 => Some(Count::Expansions),
+        4 => Some(Count::Contractions),
+        5 => Some(Count::Shrinks),
+        6 => Some(Count::Probes),
+        7 => Some(Count::Open),
+        _ => None,
+    }
+}
+
+// A place by its number, from 1.
+fn place_of(which: u64) -> Option<usize> {
+    match which {
+        1..=9 => Some((which - 1) as usize),
+        _ => None,
+    }
+}
+
+// The part that three words say.
+pub(super) fn part_of(part: u64, which: u64, value: u64) -> Option<Part> {
+    match (part, which) {
+        (0, 0) => Some(Part::Axes(value as usize)),
+        (1, 0) => Some(Part::Budget(value)),
+        (2, 0) => Some(Part::Readings(value)),
+        (3, _) => Some(Part::Count(count_of(which)?, value)),
+        (4, _) => Some(Part::Phase(phase_of(which, value)?)),
+        (5, _) => Some(Part::Standing(place_of(which)?, value)),
+        (6, _) => Some(Part::Gathered(place_of(which)?, value)),
+        (7, 0) => Some(Part::Best(value)),
+        (8, _) => Some(Part::Rule(rule_of(which, value)?)),
+        _ => None,
+    }
+}
+
+// Writes one count.
+fn put_count(counts: &mut Counts, count: Count, value: u64) {
+    match count {
+        Count::Builds => counts.builds = value,
+        Count::Reflections => counts.reflections = value,
+        Count::Expansions => counts.expansions = value,
+        Count::Contractions => counts.contractions = value,
+        Count::Shrinks => counts.shrinks = value,
+        Count::Probes => counts.probes = value,
+        Count::Open => counts.unfinished = value,
+    }
+}
+
+// Writes the cost at a place.
+fn put_cost(costs: &mut [u64; 9], place: usize, value: u64) {
+    if let Some(cost) = costs.get_mut(place) {
+        *cost = value;
+    }
+}
+
+// Writes a part of a search.
+pub(super) fn put(search: &mut Search, part: Part) {
+    match part {
+        Part::Axes(n) => search.setup.n = n,
+        Part::Budget(budget) => search.setup.budget = budget,
+        Part::Readings(readings) => search.readings = readings,
+        Part::Count(count, value) => put_count(&mut search.counts, count, value),
+        Part::Phase(phase) => search.phase = phase,
+        Part::Standing(place, cost) => put_cost(&mut search.standing.costs, place, cost),
+        Part::Gathered(place, cost) => put_cost(&mut search.gathered.costs, place, cost),
+        Part::Best(cost) => search.best.cost = cost,
+        Part::Rule(rule) => search.setup.rule = rule,
+    }
+}

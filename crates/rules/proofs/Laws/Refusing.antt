@@ -1,0 +1,127 @@
+-- What a refused call gives: the closed search of an opening, and that the checks before its refusal's own have passed. Assumes nothing.
+use Rattle.std.specs.Prelude.{Option, Ok, Err}
+use mathlib.Core.Path.{◌≡◌, refl, sym, ap, subst, ◌∙◌}
+use mathlib.Core.Bool.{Bool, true, false, not}
+use mathlib.Core.List.{List}
+use mathlib.Core.Logic.{⊎_elim}
+use native.Mathlib.Nat.{eq-or-lt_of_le}
+use native.Mathlib.Omega.{arith}
+use mathlib.Core.Bool.{◌&&◌}
+use Prim.Native.Nat.{ℕ, zero, suc, ◌+◌, ◌<◌}
+use Rattle.std.specs.Prelude.{leb, eqb}
+use Rattle.std.proofs.lemmas.Bool.Decides.{nat_tests}
+use Rattle.rules.specs.View.{is_ended}
+use lib.ListN.{get_or}
+use borrow.Author.Tests.{not-true}
+use Rattle.rules.specs.Trial.{no_axis}
+use Rattle.rules.specs.Refusals.{Verdict, check}
+use Rattle.rules.specs.Opening.{all_in_range, in_limits, in_step, in_coefficients, in_threshold, rule_of, axis_checks, axes_checks, open_verdict, closed, opening}
+use Rattle.rules.specs.Calls.{undamaged, ask_verdict, tell_verdict, best_verdict}
+use Rattle.rules.specs.Precedence.{Fits, Fit, OpeningRefused, AskRefused, TellRefused, BestRefused}
+use Rattle.rules.specs.declared.Axis.{Axis}
+use Rattle.rules.specs.declared.Coefficients.{Coefficients}
+use Rattle.rules.specs.declared.Rule.{Rule}
+use Rattle.rules.specs.declared.Search.{Search}
+use Rattle.rules.specs.declared.Refusal.{Refusal}
+use Rattle.rules.specs.declared.Refusal.TheVariants.{AxisCount, OutOfRange, BadLimits, BadStep, BadCoefficient, BadThreshold, BadBudget, SearchEnded, CostTooHigh, WrongNumber, NoReading, Damaged}
+
+-- the refusal of a verdict, r where it accepts
+refusal_in : Refusal → Verdict → Refusal
+refusal_in r (Ok _) = r
+refusal_in r (Err q) = q
+
+-- two verdicts that refuse alike refuse with one refusal
+same_refusal : (q r : Refusal) (v : Verdict) → v ≡ Err q → v ≡ Err r → q ≡ r
+unfolding refusal_in
+same_refusal q r v g h = ap (refusal_in q) (sym g ∙ h)
+
+-- where a check refuses, it fails and the refusal is its own, or it passes and those after it refuse
+pub check_refuses : (P : Refusal → Type 0) (b : Bool) (q : Refusal) (v : Verdict) (r : Refusal) → check b q v ≡ Err r
+    → (b ≡ false → P q) → (b ≡ true → v ≡ Err r → P r) → P r
+check_refuses P true q v r h f g = g refl h
+check_refuses P false q v r h f g = subst P (same_refusal q r (Err q) refl h) (f refl)
+
+-- ---- an opening
+
+-- what P has to hold of where the axis i of record x refuses
+record AxisCases (P : Refusal → Type 0) (i : ℕ) (x : Axis) : Type 0 where
+  range : all_in_range x ≡ false → P (OutOfRange i)
+  limits : all_in_range x ≡ true → in_limits x ≡ false → P (BadLimits i)
+  step : all_in_range x ≡ true → in_limits x ≡ true → in_step x ≡ false → P (BadStep i)
+
+-- where the checks of an axis refuse, one of the three fails, or they pass and those after them refuse
+axis_refuses : (P : Refusal → Type 0) (i : ℕ) (x : Axis) (v : Verdict) (r : Refusal) → axis_checks i x v ≡ Err r
+    → AxisCases P i x → (Fits x → v ≡ Err r → P r) → P r
+axis_refuses P i x v r h c g =
+    check_refuses P (all_in_range x) (OutOfRange i) _ r h c.range
+    (λ p k. check_refuses P (in_limits x) (BadLimits i) _ r k (c.limits p)
+    (λ q l. check_refuses P (in_step x) (BadStep i) v r l (c.step p q) (λ s m. g (record { range = p; limits = q; step = s }) m)))
+
+-- where the checks of k axes from the i-th on refuse, one of an axis fails after all before it have passed, or they pass and those after refuse
+axes_refuse : (P : Refusal → Type 0) (k i : ℕ) (xs : List Axis) (v : Verdict) (r : Refusal) → axes_checks k i xs v ≡ Err r
+    → ((a : ℕ) → a < i → Fits (get_or xs a no_axis))
+    → ((a : ℕ) → a < i + k → ((j : ℕ) → j < a → Fits (get_or xs j no_axis)) → AxisCases P (a + 1) (get_or xs a no_axis))
+    → (((a : ℕ) → a < i + k → Fits (get_or xs a no_axis)) → v ≡ Err r → P r) → P r
+unfolding axes_checks
+axes_refuse P zero i xs v r h before c g = g (λ a l. before a (omega arith)) h
+axes_refuse P (suc k) i xs v r h before c g =
+    axis_refuses P (i + 1) (get_or xs i no_axis) (axes_checks k (suc i) xs v) r h (c i (omega arith) before)
+    (λ f m. axes_refuse P k (suc i) xs v r m (λ a l. ⊎_elim (λ e. rw e f) (λ b. before a b) (eq-or-lt_of_le (omega arith)))
+    (λ a l. c a (omega arith)) (λ d. g (λ a l. d a (omega arith))))
+
+module _ (n : ℕ) (axes : List Axis) (rule : Option Rule) (c : Coefficients) (budget : ℕ) where
+  -- "A refused opening returns a closed search"
+  pub refused_closed : (r : Refusal) → open_verdict n axes rule c budget ≡ Err r → (opening n axes rule c budget).search ≡ closed
+  unfolding opening
+  refused_closed r h = rw h refl
+
+  -- one axis's part in the opening's refusals, where the axes before it fit
+  axis_cases : (leb 1 n && leb n 8) ≡ true → (a : ℕ) → a < n → ((j : ℕ) → j < a → Fits (get_or axes j no_axis))
+      → AxisCases (OpeningRefused n axes rule c budget) (a + 1) (get_or axes a no_axis)
+  axis_cases p a l before =
+      let fit : Fit n a axes = record { count = p; each = before } in
+      record {
+        range = λ e. record { axis = a; from_1 = refl; one_of = l; before = fit; own = e };
+        limits = λ d e. record { axis = a; from_1 = refl; one_of = l; before = fit; own = (d, e) };
+        step = λ d e f. record { axis = a; from_1 = refl; one_of = l; before = fit; own = (d, e, f) };
+      }
+
+  -- the opening's checks run in table order
+  pub opening_refused : (r : Refusal) → open_verdict n axes rule c budget ≡ Err r → OpeningRefused n axes rule c budget r
+  unfolding open_verdict
+  opening_refused r h =
+      let P = OpeningRefused n axes rule c budget in
+      check_refuses P (leb 1 n && leb n 8) AxisCount _ r h (λ f. f)
+      (λ p k. axes_refuse P n 0 axes _ r k (λ a l. absurd (omega arith)) (λ a l. axis_cases p a (omega arith))
+      (λ fits m.
+      let fit : Fit n n axes = record { count = p; each = λ a l. fits a (omega arith) } in
+      check_refuses P (in_coefficients c) BadCoefficient _ r m (λ f. (fit, f))
+      (λ q m2. check_refuses P (in_threshold (rule_of rule)) BadThreshold _ r m2 (λ f. (fit, q, f))
+      (λ t m3. check_refuses P (leb (n + 1) budget && leb budget 1000000) BadBudget (Ok tt) r m3 (λ f. (fit, q, t, f)) (λ b k2. absurd cc)))))
+
+module _ (s : Search) where
+  -- an ask's checks run in table order
+  pub ask_refused : (r : Refusal) → ask_verdict s ≡ Err r → AskRefused s r
+  unfolding ask_verdict
+  ask_refused r h =
+      let P = AskRefused s in
+      check_refuses P (undamaged s) Damaged _ r h (λ f. f)
+      (λ p k. check_refuses P (not (is_ended s.phase)) SearchEnded (Ok tt) r k (λ f. (p, grind (arith, nat_tests))) (λ q m. absurd cc))
+
+  -- a tell's
+  pub tell_refused : (number cost : ℕ) (r : Refusal) → tell_verdict s number cost ≡ Err r → TellRefused s number cost r
+  unfolding tell_verdict
+  tell_refused number cost r h =
+      let P = TellRefused s number cost in
+      check_refuses P (undamaged s) Damaged _ r h (λ f. f)
+      (λ p k. check_refuses P (not (is_ended s.phase)) SearchEnded _ r k (λ f. (p, grind (arith, nat_tests)))
+      (λ q m. check_refuses P (eqb number (s.readings + 1)) WrongNumber _ r m (λ f. (p, not-true _ q, f))
+      (λ e m2. check_refuses P (leb cost 16777215) CostTooHigh (Ok tt) r m2 (λ f. (p, not-true _ q, e, f)) (λ l m3. absurd cc))))
+
+  -- a best query's
+  pub best_refused : (r : Refusal) → best_verdict s ≡ Err r → BestRefused s r
+  unfolding best_verdict
+  best_refused r h =
+      let P = BestRefused s in
+      check_refuses P (undamaged s) Damaged _ r h (λ f. f)
+      (λ p k. check_refuses P (not (eqb s.readings 0)) NoReading (Ok tt) r k (λ f. (p, grind (arith, nat_tests))) (λ q m. absurd cc))

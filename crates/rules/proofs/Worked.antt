@@ -1,0 +1,57 @@
+-- The worked searches trial by trial, the stopping rules at their edges, the opening's refusals edge by edge, what a search carries, and refusal
+-- 12 cause by cause, by computation. Assumes nothing.
+use mathlib.Core.Path.{◌≡◌, refl}
+use Rattle.rules.specs.Simplex.{flat, store}
+use Rattle.rules.specs.Opening.{axes_checks, open_verdict, closed}
+use Rattle.rules.specs.Calls.{in_order, all_costs, sound, ask_verdict, tell_verdict, best_verdict, showing}
+use Rattle.rules.specs.Tally.{pieces, count_of, probes_in, open_in}
+use Rattle.rules.specs.Walks.{walk, walks_given, walks_stated}
+use Rattle.rules.specs.Thresholds.{thresholds_given, thresholds_stated}
+use Rattle.rules.specs.Edges.{edges_given, edges_stated, opened_given, opened_stated, clamps_given, clamps_stated}
+use Rattle.rules.specs.Parts.{parts_given, parts_stated, tallies_given, tallies_stated, runs_given, runs_stated, closed_stated}
+use Rattle.rules.specs.Causes.{causes_given, causes_stated, strays_given, strays_stated}
+use Rattle.rules.proofs.Examples.{floats, rules}
+
+pub walks : walks_given ≡ walks_stated
+unfolding walks_given walks_stated walk rules
+walks = refl
+
+pub thresholds : thresholds_given ≡ thresholds_stated
+unfolding thresholds_given thresholds_stated rules
+thresholds = refl
+
+pub edges : edges_given ≡ edges_stated
+unfolding edges_given edges_stated axes_checks open_verdict floats
+edges = refl
+
+pub opened : opened_given ≡ opened_stated
+unfolding opened_given opened_stated axes_checks open_verdict floats
+opened = refl
+
+pub clamps : clamps_given ≡ clamps_stated
+unfolding clamps_given clamps_stated floats
+clamps = refl
+
+pub parts : parts_given ≡ parts_stated
+unfolding parts_given parts_stated rules
+parts = refl
+
+pub tallies : tallies_given ≡ tallies_stated
+unfolding tallies_given tallies_stated pieces count_of probes_in open_in rules
+tallies = refl
+
+pub runs : runs_given ≡ runs_stated
+unfolding runs_given runs_stated rules
+runs = refl
+
+pub closed_written : closed ≡ closed_stated
+unfolding closed closed_stated flat store
+closed_written = refl
+
+pub causes : causes_given ≡ causes_stated
+unfolding causes_given causes_stated rules in_order all_costs sound ask_verdict tell_verdict best_verdict
+causes = refl
+
+pub strays : strays_given ≡ strays_stated
+unfolding strays_given strays_stated rules in_order all_costs sound best_verdict showing
+strays = refl

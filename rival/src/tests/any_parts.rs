@@ -1,0 +1,85 @@
+//! Any parts written in any order, with any calls between: no call panics, a refused one changes nothing, and a search goes on alike
+//! whether what it carries was worked out by calls or anew.
+
+use super::*;
+use crate::types::Refusal;
+
+/// A made-up number, most often at an edge.
+fn number(search: &Search, seed: &mut u64) -> u64 {
+    let n = search.n as u64;
+    let any = next(seed).wrapping_mul(next(seed)).wrapping_mul(next(seed));
+    let beside = next(seed) % 3;
+    match next(seed) % 12 {
+        0 => any,
+        1 => u64::MAX - beside,
+        2 => n.wrapping_add(beside).wrapping_sub(1),
+        3 => n.wrapping_mul(2).wrapping_sub(beside),
+        4 => search.budget.wrapping_add(beside).wrapping_sub(1),
+        5 => search.readings.wrapping_add(beside),
+        6 => 16_777_214 + beside,
+        7 => 999_999 + beside,
+        8 => 4_294_967_294 + beside,
+        _ => next(seed) % 20,
+    }
+}
+
+/// Writes some part, put back in most cases where calls are then refused with 12.
+fn write_any(search: &mut Search, seed: &mut u64) {
+    let before = search.clone();
+    let part = next(seed) % 9;
+    let most = [0, 0, 0, 7, 8, 9, 9, 0, 3][part as usize];
+    let which = u64::from([3, 5, 6, 8].contains(&part)).max(next(seed) % (most + 1));
+    let value = number(search, seed);
+    write(search, (part, which, value));
+    if search.ask() == Err(Refusal::numbered(12)) && !next(seed).is_multiple_of(8) {
+        *search = before;
+    }
+}
+
+/// Tells any cost, also to a copy whose carried numbers are worked out anew.
+fn tell_any(search: &mut Search, seed: &mut u64) {
+    let before = search.words();
+    let mut anew = search.clone();
+    write(&mut anew, (1, 0, search.budget));
+    assert_eq!(anew.words(), before);
+    assert_eq!(anew.ask(), search.ask());
+    assert_eq!(anew.best(), search.best());
+    let reading = search.readings.wrapping_add(1);
+    let cost = next(seed) % 24;
+    let told = search.tell(reading, cost);
+    assert_eq!(anew.tell(reading, cost), told);
+    assert_eq!(anew.words(), search.words());
+    assert_eq!(anew.ask(), search.ask());
+    assert_eq!(told.is_err(), before == search.words());
+}
+
+/// Leads one search, opened or closed, through tells and written parts; answers how many tells were accepted.
+fn lead(mut search: Search, seed: &mut u64) -> u64 {
+    let mut accepted = 0;
+    for _ in 0..40 {
+        if next(seed).is_multiple_of(4) {
+            write_any(&mut search, seed);
+        }
+        let readings = search.readings;
+        tell_any(&mut search, seed);
+        accepted += u64::from(search.readings != readings);
+    }
+    accepted
+}
+
+#[test]
+fn searches_go_on_from_their_parts() {
+    let mut seed = 5;
+    let mut accepted = 0;
+    for round in 0..2000 {
+        let rules = [Rule::Spread(9), Rule::Moved(0.01), Rule::Size(0.1)];
+        let rule = rules[round % 3];
+        let n = 1 + next(&mut seed) % 8;
+        let search = match round % 10 {
+            0 => Search::closed(),
+            _ => open(n, USUAL_AXIS, rule, 300),
+        };
+        accepted += lead(search, &mut seed);
+    }
+    assert!(accepted > 10_000, "{accepted}");
+}

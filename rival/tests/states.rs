@@ -1,0 +1,198 @@
+//! State lines, and the lines that write one part.
+
+mod lines;
+
+use lines::*;
+
+/// The state line of the two-axis example with rule spread 4 after costs.
+fn state(costs: &[u64]) -> String {
+    last_line(&(example(costs) + "s\n"))
+}
+
+/// The script of the two-axis example after costs.
+fn example(costs: &[u64]) -> String {
+    let mut script = opening(2, 1, 4, 100);
+    for (number, &cost) in (1..).zip(costs) {
+        script += &tell(number, cost);
+    }
+    script
+}
+
+/// A vertex of two axes on a state line.
+fn vertex(x: f64, y: f64, cost: u64) -> String {
+    floats(&[x, y]) + &zeros(6) + &word(cost)
+}
+
+/// Nine places on a state line.
+fn simplex(vertices: &[String]) -> String {
+    vertices.concat() + &zeros(9 * (9 - vertices.len()))
+}
+
+/// What a state line shows behind the opening's words.
+struct Shown<'a> {
+    first: [u64; 10],
+    best: &'a str,
+    center: [f64; 2],
+    standing: &'a [String],
+    gathered: &'a [String],
+}
+
+impl Shown<'_> {
+    /// The state line of the two-axis example.
+    fn line(&self) -> String {
+        let given = opening(2, 1, 4, 100).trim_end().replacen('o', "s", 1);
+        let first: String = self.first.iter().map(|&number| word(number)).collect();
+        let center = floats(&self.center) + &zeros(6);
+        let simplices = simplex(self.standing) + &simplex(self.gathered);
+        format!("{given}{first}{}{center}{simplices}", self.best)
+    }
+}
+
+/// Asserts the state after costs, with the build around the start.
+#[track_caller]
+fn check(costs: &[u64], first: [u64; 10], best: &str, standing: &[String], gathered: &[String]) {
+    let center = [0.0, 0.0];
+    let shown = Shown {
+        first,
+        best,
+        center,
+        standing,
+        gathered,
+    };
+    assert_eq!(state(costs), shown.line());
+}
+
+#[test]
+fn states_of_the_first_build() {
+    let thirty = vertex(0.0, 0.0, 30);
+    let twenty = vertex(1.0, 0.0, 20);
+    check(&[], [0; 10], &zeros(9), &[], &[]);
+    let one = [thirty.clone()];
+    check(&[30], [0, 1, 1, 0, 0, 0, 0, 0, 0, 0], &thirty, &[], &one);
+    let two = [twenty.clone(), thirty];
+    let first = [0, 2, 2, 0, 0, 0, 0, 0, 0, 1];
+    check(&[30, 20], first, &twenty, &[], &two);
+}
+
+#[test]
+fn states_of_the_example() {
+    let ten = vertex(0.0, 1.0, 10);
+    let built = [ten.clone(), vertex(1.0, 0.0, 20), vertex(0.0, 0.0, 30)];
+    let standing = |costs: &[u64], first, best: &str| check(costs, first, best, &built, &[]);
+    let p1 = [30, 20, 10];
+    standing(&p1, [1, 0, 3, 1, 0, 0, 0, 0, 0, 0], &ten);
+    let five = vertex(1.0, 1.0, 5);
+    let p3 = [30, 20, 10, 5];
+    standing(&p3, [2, 5, 4, 1, 0, 0, 0, 0, 0, 1], &five);
+    let p6 = [30, 20, 10, 20];
+    standing(&p6, [3, 20, 4, 1, 0, 0, 0, 0, 0, 1], &ten);
+    let p9 = [30, 20, 10, 31];
+    standing(&p9, [4, 31, 4, 1, 0, 0, 0, 0, 0, 1], &ten);
+    let kept = [ten.clone()];
+    let p10 = [30, 20, 10, 31, 30];
+    let first = [5, 1, 5, 1, 0, 0, 0, 0, 0, 2];
+    check(&p10, first, &ten, &built, &kept);
+    let two = [ten.clone(), vertex(0.5, 0.5, 40)];
+    let shrinking = [30, 20, 10, 31, 30, 40];
+    let first = [5, 2, 6, 1, 0, 0, 0, 0, 0, 3];
+    check(&shrinking, first, &ten, &built, &two);
+}
+
+#[test]
+fn states_of_a_probe_round() {
+    let flat = [
+        vertex(0.0, 0.0, 7),
+        vertex(1.0, 0.0, 7),
+        vertex(0.0, 1.0, 7),
+    ];
+    let b = vertex(0.0, 0.0, 7);
+    let round = |costs: &[u64], first| check(costs, first, &b, &flat, &[]);
+    round(&[7; 3], [6, 0, 3, 1, 0, 0, 0, 0, 0, 0]);
+    round(&[7; 5], [6, 2, 5, 1, 0, 0, 0, 0, 2, 0]);
+    round(&[7; 7], [7, 0, 7, 1, 0, 0, 0, 0, 4, 0]);
+}
+
+#[test]
+fn states_of_a_restart() {
+    let d = 0.0009765625;
+    let lower = vertex(d, 0.0, 6);
+    let standing = [
+        vertex(0.0, 0.0, 7),
+        vertex(1.0, 0.0, 7),
+        vertex(0.0, 1.0, 7),
+    ];
+    let gathered = [lower.clone(), vertex(1.0 + d, 0.0, 9)];
+    let mut shown = Shown {
+        first: [0, 1, 4, 1, 0, 0, 0, 0, 1, 0],
+        best: &lower,
+        center: [d, 0.0],
+        standing: &standing,
+        gathered: &gathered[..1],
+    };
+    assert_eq!(state(&[7, 7, 7, 6]), shown.line());
+    shown.first = [0, 2, 5, 1, 0, 0, 0, 0, 1, 1];
+    shown.gathered = &gathered;
+    assert_eq!(state(&[7, 7, 7, 6, 9]), shown.line());
+}
+
+/// The word of a state line at an index, from 0 after the letter.
+fn word_of(script: &str, index: usize) -> String {
+    let line = last_line(&format!("{script}s\n"));
+    line.split(' ').nth(index + 1).expect("a word").to_string()
+}
+
+#[test]
+fn every_part_is_written() {
+    let value = 0x0123_4567_89ab_cdef;
+    let plain = [(0, 0, 0), (1, 0, 7), (2, 0, 42), (7, 0, 58)];
+    let counts = (1..=7).map(|which| (3, which, 42 + which as usize));
+    let phases = [0, 2, 3, 4, 5, 6].map(|phase| (4, phase, 41));
+    let standing = (1..=9).map(|place| (5, place, 66 + 9 * place as usize));
+    let gathered = (1..=9).map(|place| (6, place, 147 + 9 * place as usize));
+    let rules = [(8, 1, 2), (8, 2, 2), (8, 3, 2)];
+    let all = plain.into_iter().chain(counts).chain(phases);
+    for (part, which, at) in all.chain(standing).chain(gathered).chain(rules) {
+        for script in [String::new(), example(&[30, 20, 10, 31, 30])] {
+            let script = script + &write(part, which, value);
+            assert_eq!(last_line(&script), "p");
+            assert_eq!(word_of(&script, at), word(value).trim());
+        }
+    }
+}
+
+#[test]
+fn phases_without_a_detail() {
+    for phase in [1, 7, 8] {
+        let script = example(&[30, 20, 10, 5]) + &write(4, phase, 9);
+        assert_eq!(word_of(&script, 40), word(phase).trim());
+        assert_eq!(word_of(&script, 41), word(0).trim());
+    }
+}
+
+#[test]
+fn calls_go_on_from_what_is_written() {
+    let script = example(&[30, 20, 10]) + &write(4, 2, 5);
+    let expansion = word(0) + &word(4) + &floats(&[1.5, 1.5]) + &zeros(6);
+    assert_eq!(
+        last_line(&(script.clone() + "a\n")),
+        format!("a{expansion}")
+    );
+    let script = script + &write(2, 0, 100);
+    assert_eq!(
+        last_line(&(script.clone() + "a\n")),
+        format!("a{}{}", word(12), zeros(9))
+    );
+    let script = script + &write(1, 0, 101) + &tell(101, 4);
+    assert_eq!(last_line(&script), format!("t{}", word(0)));
+    assert_eq!(word_of(&script, 40), word(8).trim());
+}
+
+/// "A NaN is shown as 7ff8000000000000, whichever it is."
+#[test]
+fn a_nan_has_one_word() {
+    for (rule, nan) in [(2, 0x7ff0_0000_0000_0001), (3, u64::MAX)] {
+        let line = last_line(&(example(&[]) + &write(8, rule, nan) + "s\n"));
+        let shown = word(rule) + &word(0x7ff8_0000_0000_0000);
+        assert_eq!(line.get(18..52), Some(shown.as_str()));
+    }
+}

@@ -1,0 +1,254 @@
+//! The causes of refusal 12, counted: how often one past its edge a call was refused, and how often at its edge a call was accepted. A
+//! cause counts where one line that writes a part is all that stands between a sound search and the call.
+
+use crate::costs::DARK;
+use crate::openings::{MOST_BUDGET, MOST_SPREAD, SPREAD};
+use crate::state::{State, Written};
+use rival::replay::Replay;
+
+pub const CAUSES: [&str; 25] = [
+    "n below",
+    "n above",
+    "readings not below the budget",
+    "builds above the budget",
+    "reflections above the budget",
+    "expansions above the budget",
+    "contractions above the budget",
+    "shrinks above the budget",
+    "probes above the budget",
+    "open above the budget",
+    "budget above 1,000,000",
+    "spread E",
+    "build number above n",
+    "build number 0 after a build",
+    "shrink number 0",
+    "shrink number above n",
+    "probe number",
+    "standing order",
+    "gathered order",
+    "cost of standing place",
+    "cost past the standing ones",
+    "cost of gathered place",
+    "cost past the gathered ones",
+    "best's cost",
+    "phase's cost",
+];
+
+/// A cause of two parts.
+const LATE: &str = CAUSES[2];
+
+/// Calls at ask, tell and best.
+pub const CALLS: [&str; 3] = ["ask", "tell", "best"];
+
+#[derive(Clone, Default)]
+pub struct Causes {
+    /// Refused with 12 one past the edge, by cause and call.
+    pub refused: [[u64; 3]; CAUSES.len()],
+    /// Accepted at the edge.
+    pub accepted: [[u64; 3]; CAUSES.len()],
+    /// Accepted tells of searches of which a part was written before, by phase.
+    pub made_up: [u64; 7],
+}
+
+impl Causes {
+    pub fn join(&mut self, other: &Causes) {
+        join(&mut self.refused, &other.refused);
+        join(&mut self.accepted, &other.accepted);
+        let phases = self.made_up.iter_mut().zip(other.made_up);
+        phases.for_each(|(count, more)| *count += more);
+    }
+
+    fn add(&mut self, met: &Met, call: usize, verdict: u64) {
+        match (met.past, verdict) {
+            (true, 12) => self.refused[met.cause][call] += 1,
+            (false, 0) => self.accepted[met.cause][call] += 1,
+            _ => {}
+        }
+    }
+}
+
+fn join(counts: &mut [[u64; 3]], more: &[[u64; 3]]) {
+    let all = counts.iter_mut().flatten().zip(more.iter().flatten());
+    all.for_each(|(count, more)| *count += more);
+}
+
+/// A cause at its edge, or one past it.
+struct Met {
+    cause: usize,
+    past: bool,
+}
+
+/// Follows a script that writes parts.
+#[derive(Default)]
+pub struct Watch {
+    replay: Replay,
+    met: Vec<Met>,
+    /// Whether a part of the search was written.
+    made_up: bool,
+}
+
+impl Watch {
+    /// Takes a line of the script, and the verdict of its answer.
+    pub fn see(&mut self, line: &[u8], verdict: u64, causes: &mut Causes) {
+        let call = b"atb"
+            .iter()
+            .position(|letter| line.first() == Some(letter));
+        if let Some(call) = call {
+            self.met
+                .iter()
+                .for_each(|met| causes.add(met, call, verdict));
+        }
+        match line.first() {
+            Some(b'p') => self.write(line),
+            Some(b'o') => self.open(line),
+            Some(b't') if verdict == 0 => self.tell(line, causes),
+            _ => {}
+        }
+    }
+
+    fn open(&mut self, line: &[u8]) {
+        self.made_up = false;
+        self.go_on(line);
+    }
+
+    fn tell(&mut self, line: &[u8], causes: &mut Causes) {
+        if self.made_up {
+            let phase = State::of(self.replay.search()).phase();
+            let count = causes.made_up.get_mut(phase as usize);
+            count.into_iter().for_each(|count| *count += 1);
+        }
+        self.go_on(line);
+    }
+
+    fn go_on(&mut self, line: &[u8]) {
+        self.met.clear();
+        self.replay.answer(line, &mut Vec::new());
+    }
+
+    fn write(&mut self, line: &[u8]) {
+        let search = self.replay.search();
+        let state = State::of(search);
+        let sound = search.ask().is_ok() && state.is_fixed();
+        self.made_up = true;
+        self.go_on(line);
+        if sound {
+            self.met = met(&state, words(line));
+        }
+    }
+}
+
+/// The part, which of it and the value of a line.
+fn words(line: &[u8]) -> Written {
+    let text = String::from_utf8_lossy(line);
+    let mut words = text.split(' ').skip(1);
+    std::array::from_fn(|_| {
+        let word = words.next().unwrap_or_default();
+        u64::from_str_radix(word, 16).unwrap_or(u64::MAX)
+    })
+}
+
+/// The last value that is accepted.
+enum Edge {
+    Least(u64),
+    Most(u64),
+}
+
+impl Edge {
+    /// Whether a value is one past the edge, or at it; none if it is elsewhere.
+    fn past(&self, value: u64) -> Option<bool> {
+        let (edge, beyond) = match self {
+            Edge::Least(edge) => (*edge, edge.checked_sub(1)),
+            Edge::Most(edge) => (*edge, edge.checked_add(1)),
+        };
+        match value {
+            _ if value == edge => Some(false),
+            _ if Some(value) == beyond => Some(true),
+            _ => None,
+        }
+    }
+}
+
+/// The causes whose edge a line written into a sound state meets, or passes by one.
+fn met(state: &State, line: Written) -> Vec<Met> {
+    let at_edges = edges(state, line)
+        .into_iter()
+        .filter_map(|(name, edge)| edge.past(line[2]).map(|past| (name, past)));
+    let in_order = ordered(state, line).map(|past| match line[0] {
+        5 => ("standing order", past),
+        _ => ("gathered order", past),
+    });
+    let met = |(name, past)| {
+        let cause = CAUSES.iter().position(|cause| *cause == name);
+        cause.map(|cause| Met { cause, past })
+    };
+    at_edges.chain(in_order).filter_map(met).collect()
+}
+
+/// The causes of a part, each with its edge.
+fn edges(state: &State, [part, which, _]: Written) -> Vec<(&'static str, Edge)> {
+    match part {
+        0 => vec![("n below", Edge::Least(1)), ("n above", Edge::Most(8))],
+        1 => vec![
+            (LATE, Edge::Least(state.readings() + 1)),
+            ("budget above 1,000,000", Edge::Most(MOST_BUDGET)),
+        ],
+        2 => vec![(LATE, Edge::Most(state.budget() - 1))],
+        3 => vec![(CAUSES[2 + which as usize], Edge::Most(state.budget()))],
+        4 => phase_edges(state, which),
+        5 | 6 => vec![(held_cost(state, part, which), Edge::Most(DARK))],
+        7 => vec![("best's cost", Edge::Most(DARK))],
+        8 if which == SPREAD => vec![("spread E", Edge::Most(MOST_SPREAD))],
+        _ => vec![],
+    }
+}
+
+/// The causes of a phase's detail.
+fn phase_edges(state: &State, phase: u64) -> Vec<(&'static str, Edge)> {
+    let n = state.n();
+    let mut edges = match phase {
+        0 => vec![("build number above n", Edge::Most(n))],
+        2..=4 => vec![("phase's cost", Edge::Most(DARK))],
+        5 => vec![
+            ("shrink number 0", Edge::Least(1)),
+            ("shrink number above n", Edge::Most(n)),
+        ],
+        6 => vec![("probe number", Edge::Most(2 * n - 1))],
+        _ => vec![],
+    };
+    if phase == 0 && state.builds() > 0 {
+        edges.push(("build number 0 after a build", Edge::Least(1)));
+    }
+    edges
+}
+
+/// The cause of a cost at a place of either simplex.
+fn held_cost(state: &State, part: u64, place: u64) -> &'static str {
+    match part {
+        5 if place <= state.standing_vertices() => "cost of standing place",
+        5 => "cost past the standing ones",
+        _ if place <= state.gathered_vertices() => "cost of gathered place",
+        _ => "cost past the gathered ones",
+    }
+}
+
+/// Whether a cost of a place that has to be in order is one past its neighbours', or none if it is equal to neither and not past by one.
+fn ordered(state: &State, [part, place, value]: Written) -> Option<bool> {
+    let held = |place| match part {
+        5 => state.standing(place),
+        _ => state.gathered(place),
+    };
+    let vertices = match part {
+        5 => state.standing_vertices(),
+        6 => state.gathered_vertices(),
+        _ => 0,
+    };
+    if place > vertices || value > DARK {
+        return None;
+    }
+    let below = (place > 1).then(|| held(place - 1));
+    let above = (place < vertices).then(|| held(place + 1));
+    if below.is_some_and(|cost| value + 1 == cost) || above.is_some_and(|cost| value == cost + 1) {
+        return Some(true);
+    }
+    (below == Some(value) || above == Some(value)).then_some(false)
+}

@@ -1,0 +1,125 @@
+//! A search's parts, as the words of its state line, and where docs/REPLAY.md says what the calls answer.
+
+use rival::replay::Replay;
+use rival::Search;
+
+/// The part, which of it, and the value of a line that writes one.
+pub type Written = [u64; 3];
+
+pub struct State(Vec<u64>);
+
+impl State {
+    pub fn of(search: &Search) -> State {
+        State(search.words())
+    }
+
+    pub fn n(&self) -> u64 {
+        self.0[0]
+    }
+
+    pub fn budget(&self) -> u64 {
+        self.0[7]
+    }
+
+    pub fn phase(&self) -> u64 {
+        self.0[40]
+    }
+
+    pub fn detail(&self) -> u64 {
+        self.0[41]
+    }
+
+    pub fn readings(&self) -> u64 {
+        self.0[42]
+    }
+
+    /// One of the seven counts, from 1.
+    pub fn count(&self, which: u64) -> u64 {
+        self.0[42 + which as usize]
+    }
+
+    pub fn builds(&self) -> u64 {
+        self.count(1)
+    }
+
+    pub fn best(&self) -> u64 {
+        self.0[58]
+    }
+
+    /// The cost at a place of the standing simplex, from 1.
+    pub fn standing(&self, place: u64) -> u64 {
+        self.0[66 + 9 * place as usize]
+    }
+
+    pub fn gathered(&self, place: u64) -> u64 {
+        self.0[147 + 9 * place as usize]
+    }
+
+    /// How many standing vertices have to be in cost order.
+    pub fn standing_vertices(&self) -> u64 {
+        match self.builds() {
+            0 => 0,
+            _ => self.n().saturating_add(1).min(9),
+        }
+    }
+
+    /// How many gathered vertices have to be in cost order.
+    pub fn gathered_vertices(&self) -> u64 {
+        match self.phase() {
+            0 | 5 => self.detail().min(9),
+            _ => 0,
+        }
+    }
+
+    /// The line that puts back what another one writes over.
+    pub fn undoing(&self, line: Written) -> Written {
+        let [part, which, _] = line;
+        match part {
+            0 => [0, 0, self.n()],
+            1 => [1, 0, self.budget()],
+            2 => [2, 0, self.readings()],
+            3 => [3, which, self.count(which)],
+            4 => [4, self.phase(), self.detail()],
+            5 => [5, which, self.standing(which)],
+            6 => [6, which, self.gathered(which)],
+            7 => [7, 0, self.best()],
+            _ => [8, self.0[1], self.0[2]],
+        }
+    }
+
+    /// Whether the calls' answers are fixed: no iteration without a build is under way over places out of cost order.
+    pub fn is_fixed(&self) -> bool {
+        let unbuilt = self.builds() == 0 && (1..=5).contains(&self.phase());
+        !unbuilt || (1..=self.n().min(8)).all(|i| self.standing(i) <= self.standing(i + 1))
+    }
+}
+
+pub fn writes_parts(script: &[u8]) -> bool {
+    script.windows(3).any(|bytes| bytes == b"\np ") || script.starts_with(b"p ")
+}
+
+/// The script up to the first call whose answer nothing fixes, for a script that was changed after it was made.
+pub fn fixed_part(mut script: Vec<u8>) -> Vec<u8> {
+    if writes_parts(&script) {
+        script.truncate(fixed_length(&script));
+    }
+    script
+}
+
+fn fixed_length(script: &[u8]) -> usize {
+    let mut replay = Replay::default();
+    let mut length = 0;
+    for line in script.split_inclusive(|b| *b == b'\n') {
+        let call = matches!(line.first(), Some(b'a' | b't' | b'b'));
+        if call && !State::of(replay.search()).is_fixed() {
+            return length;
+        }
+        let whole = line.strip_suffix(b"\n");
+        let answered = whole.and_then(|line| replay.answer(line, &mut Vec::new()));
+        if answered.is_none() {
+            return script.len();
+        }
+        length += line.len();
+    }
+    length
+}
