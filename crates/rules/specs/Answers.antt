@@ -65,10 +65,6 @@ unread_search = fresh_with 2 0ᶠ 100
 abbrev pub spent_search : Search
 spent_search = after_costs (fresh_with 2 0ᶠ 3) (30 ∷ 20 ∷ 10 ∷ [])
 
--- the search s with another number of readings, which no call gives it
-abbrev pub with_readings : ℕ → Search → Search
-with_readings k s = record s { readings = k }
-
 -- the refusals of later calls by the rules
 unfoldable pub refusals_given : List ℕ
 refusals_given =
@@ -79,8 +75,6 @@ refusals_given =
     ∷ refused_as (best_verdict unread_search) ∷ refused_as (best_verdict spent_search)
     -- an ended search: ask, and tell before its number is looked at
     ∷ refused_as (ask_verdict spent_search) ∷ refused_as (tell_verdict spent_search 9 1)
-    -- readings just below the budget, and at it
-    ∷ refused_as (ask_verdict (with_readings 99 unread_search)) ∷ refused_as (ask_verdict (with_readings 100 unread_search))
     ∷ []
 
 -- what the table says of each call of `refusals_given`, in its order
@@ -90,7 +84,6 @@ refusals_stated =
     ∷ 0 ∷ 9
     ∷ 11 ∷ 0
     ∷ 8 ∷ 8
-    ∷ 0 ∷ 12
     ∷ []
 
 -- every refusal, those of an axis with one of their own

@@ -7,7 +7,7 @@ use Rattle.rules.specs.Binary64.{1ᶠ}
 use Rattle.rules.specs.Count.{no_counts}
 use Rattle.rules.specs.Accept.{accept}
 use Rattle.rules.specs.Calls.{ask_verdict, tell_verdict, best_verdict, showing}
-use Rattle.rules.specs.Answers.{refused_as, unread_search, with_readings}
+use Rattle.rules.specs.Answers.{refused_as, unread_search}
 use Rattle.rules.specs.Further.{with_gathered, built_search}
 use Rattle.rules.specs.Walks.{asked_bits}
 use Rattle.rules.specs.declared.Rule.{Rule}
@@ -29,6 +29,10 @@ with_n n s = record s { setup = record s.setup { n = n } }
 abbrev pub with_budget : ℕ → Search → Search
 with_budget b s = record s { setup = record s.setup { budget = b } }
 
+-- with another number of readings
+abbrev pub with_readings : ℕ → Search → Search
+with_readings k s = record s { readings = k }
+
 -- with another stopping rule
 abbrev pub with_rule : Rule → Search → Search
 with_rule r s = record s { setup = record s.setup { rule = r } }
@@ -42,54 +46,54 @@ abbrev pub with_phase : Phase → Search → Search
 with_phase p s = record s { phase = p }
 
 -- the number that ask refuses it with, 0 where it answers
-abbrev pub asked : Search → ℕ
-asked s = refused_as (ask_verdict s)
+abbrev pub by_ask : Search → ℕ
+by_ask s = refused_as (ask_verdict s)
 
 -- the refusals that the rules give
 unfoldable pub causes_given : List ℕ
 causes_given =
     -- n: 1 and 0 after a build; 8 and 9 before the first
-    asked (with_n 1 built_search) ∷ asked (with_n 0 built_search) ∷ asked (with_n 8 unread_search) ∷ asked (with_n 9 unread_search)
+    by_ask (with_n 1 built_search) ∷ by_ask (with_n 0 built_search) ∷ by_ask (with_n 8 unread_search) ∷ by_ask (with_n 9 unread_search)
     -- the budget: 1,000,000 and one more
-    ∷ asked (with_budget 1000000 built_search) ∷ asked (with_budget 1000001 built_search)
+    ∷ by_ask (with_budget 1000000 built_search) ∷ by_ask (with_budget 1000001 built_search)
     -- readings: below the budget of 100, and at it
-    ∷ asked (with_readings 99 built_search) ∷ asked (with_readings 100 built_search)
+    ∷ by_ask (with_readings 99 built_search) ∷ by_ask (with_readings 100 built_search)
     -- each count: at the budget, and one more
-    ∷ asked (with_counts (record built_search.counts { builds = 100 }) built_search)
-    ∷ asked (with_counts (record built_search.counts { builds = 101 }) built_search)
-    ∷ asked (with_counts (record built_search.counts { reflections = 100 }) built_search)
-    ∷ asked (with_counts (record built_search.counts { reflections = 101 }) built_search)
-    ∷ asked (with_counts (record built_search.counts { expansions = 100 }) built_search)
-    ∷ asked (with_counts (record built_search.counts { expansions = 101 }) built_search)
-    ∷ asked (with_counts (record built_search.counts { contractions = 100 }) built_search)
-    ∷ asked (with_counts (record built_search.counts { contractions = 101 }) built_search)
-    ∷ asked (with_counts (record built_search.counts { shrinks = 100 }) built_search)
-    ∷ asked (with_counts (record built_search.counts { shrinks = 101 }) built_search)
-    ∷ asked (with_counts (record built_search.counts { probes = 100 }) built_search)
-    ∷ asked (with_counts (record built_search.counts { probes = 101 }) built_search)
-    ∷ asked (with_counts (record built_search.counts { unfinished = 100 }) built_search)
-    ∷ asked (with_counts (record built_search.counts { unfinished = 101 }) built_search)
+    ∷ by_ask (with_counts (record built_search.counts { builds = 100 }) built_search)
+    ∷ by_ask (with_counts (record built_search.counts { builds = 101 }) built_search)
+    ∷ by_ask (with_counts (record built_search.counts { reflections = 100 }) built_search)
+    ∷ by_ask (with_counts (record built_search.counts { reflections = 101 }) built_search)
+    ∷ by_ask (with_counts (record built_search.counts { expansions = 100 }) built_search)
+    ∷ by_ask (with_counts (record built_search.counts { expansions = 101 }) built_search)
+    ∷ by_ask (with_counts (record built_search.counts { contractions = 100 }) built_search)
+    ∷ by_ask (with_counts (record built_search.counts { contractions = 101 }) built_search)
+    ∷ by_ask (with_counts (record built_search.counts { shrinks = 100 }) built_search)
+    ∷ by_ask (with_counts (record built_search.counts { shrinks = 101 }) built_search)
+    ∷ by_ask (with_counts (record built_search.counts { probes = 100 }) built_search)
+    ∷ by_ask (with_counts (record built_search.counts { probes = 101 }) built_search)
+    ∷ by_ask (with_counts (record built_search.counts { unfinished = 100 }) built_search)
+    ∷ by_ask (with_counts (record built_search.counts { unfinished = 101 }) built_search)
     -- E of spread: 0, the largest and one more; any float of moved and of size
-    ∷ asked (with_rule (Spread 0) built_search) ∷ asked (with_rule (Spread 4294967295) built_search)
-    ∷ asked (with_rule (Spread 4294967296) built_search) ∷ asked (with_rule (Moved nan) built_search) ∷ asked (with_rule (Size nan) built_search)
+    ∷ by_ask (with_rule (Spread 0) built_search) ∷ by_ask (with_rule (Spread 4294967295) built_search)
+    ∷ by_ask (with_rule (Spread 4294967296) built_search) ∷ by_ask (with_rule (Moved nan) built_search) ∷ by_ask (with_rule (Size nan) built_search)
     -- building: n and n + 1; 0 in the first build and after it; 1 after it
-    ∷ asked (with_phase (Building 2) unread_search) ∷ asked (with_phase (Building 3) unread_search) ∷ asked (with_phase (Building 0) unread_search)
-    ∷ asked (with_phase (Building 0) built_search) ∷ asked (with_phase (Building 1) built_search)
+    ∷ by_ask (with_phase (Building 2) unread_search) ∷ by_ask (with_phase (Building 3) unread_search) ∷ by_ask (with_phase (Building 0) unread_search)
+    ∷ by_ask (with_phase (Building 0) built_search) ∷ by_ask (with_phase (Building 1) built_search)
     -- reflecting holds no number; expanding and contracting: the largest cost and one more
-    ∷ asked (with_phase Reflecting unread_search) ∷ asked (with_phase (Expanding 16777215) built_search)
-    ∷ asked (with_phase (Expanding 16777216) built_search) ∷ asked (with_phase (Contracting Outside 16777215) built_search)
-    ∷ asked (with_phase (Contracting Outside 16777216) built_search) ∷ asked (with_phase (Contracting Inside 16777215) built_search)
-    ∷ asked (with_phase (Contracting Inside 16777216) built_search)
+    ∷ by_ask (with_phase Reflecting unread_search) ∷ by_ask (with_phase (Expanding 16777215) built_search)
+    ∷ by_ask (with_phase (Expanding 16777216) built_search) ∷ by_ask (with_phase (Contracting Outside 16777215) built_search)
+    ∷ by_ask (with_phase (Contracting Outside 16777216) built_search) ∷ by_ask (with_phase (Contracting Inside 16777215) built_search)
+    ∷ by_ask (with_phase (Contracting Inside 16777216) built_search)
     -- shrinking: 0, 1, n and n + 1; probing: 2n − 1 and 2n
-    ∷ asked (with_phase (Shrinking 0) built_search) ∷ asked (with_phase (Shrinking 1) built_search) ∷ asked (with_phase (Shrinking 2) built_search)
-    ∷ asked (with_phase (Shrinking 3) built_search) ∷ asked (with_phase (Probing 3) built_search) ∷ asked (with_phase (Probing 4) built_search)
+    ∷ by_ask (with_phase (Shrinking 0) built_search) ∷ by_ask (with_phase (Shrinking 1) built_search) ∷ by_ask (with_phase (Shrinking 2) built_search)
+    ∷ by_ask (with_phase (Shrinking 3) built_search) ∷ by_ask (with_phase (Probing 3) built_search) ∷ by_ask (with_phase (Probing 4) built_search)
     -- as many gathered places as the phase says are held to order: two of a shrink at place 3, one at place 2; none while reflecting or probing
-    ∷ asked (with_gathered (20 ∷ 19 ∷ []) (with_phase (Shrinking 2) built_search))
-    ∷ asked (with_gathered (20 ∷ 19 ∷ []) (with_phase (Shrinking 1) built_search)) ∷ asked (with_gathered (20 ∷ 19 ∷ []) built_search)
-    ∷ asked (with_gathered (20 ∷ 19 ∷ []) (with_phase (Probing 3) built_search))
+    ∷ by_ask (with_gathered (20 ∷ 19 ∷ []) (with_phase (Shrinking 2) built_search))
+    ∷ by_ask (with_gathered (20 ∷ 19 ∷ []) (with_phase (Shrinking 1) built_search)) ∷ by_ask (with_gathered (20 ∷ 19 ∷ []) built_search)
+    ∷ by_ask (with_gathered (20 ∷ 19 ∷ []) (with_phase (Probing 3) built_search))
     -- tell and best are refused alike, before 10, 9 and 11; an ended search never is: ask answers 8, tell 8, best its reading
     ∷ refused_as (tell_verdict (with_n 9 built_search) 9 16777216) ∷ refused_as (best_verdict (with_n 9 unread_search))
-    ∷ refused_as (best_verdict (with_n 9 built_search)) ∷ asked (with_phase (Ended Settled) (with_n 9 built_search))
+    ∷ refused_as (best_verdict (with_n 9 built_search)) ∷ by_ask (with_phase (Ended Settled) (with_n 9 built_search))
     ∷ refused_as (tell_verdict (with_phase (Ended Settled) (with_n 9 built_search)) 9 16777216)
     ∷ refused_as (best_verdict (with_phase (Ended Settled) (with_n 9 built_search)))
     ∷ []
@@ -143,7 +147,7 @@ strays_given =
     ∷ shown (showing (with_ones built_search))
     ∷ []
 
--- what document 01 says of each, in this order
+-- what docs/REPLAY.md says of each, in this order: document 01 speaks of searches that calls have made
 unfoldable pub strays_stated : List (List ℕ)
 strays_stated =
     (7 ∷ 8 ∷ []) ∷ (0 ∷ 0 ∷ [])

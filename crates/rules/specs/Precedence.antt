@@ -1,5 +1,5 @@
 -- "Checks run in table order", said of each refusal by itself: its own check fails, and every check that stands before it passes. `check` says
--- the same by the order in which it tries them; that the two agree is proved.
+-- the same by the order in which it tries them; that a call is refused exactly so is proved.
 use Rattle.std.specs.Prelude.{◌≡◌, true, false, ◌&&◌, List, ℕ, ◌+◌, ◌<◌, get_or, leb, eqb, Option}
 use Rattle.rules.specs.View.{is_ended}
 use Rattle.rules.specs.Trial.{no_axis}

@@ -1,13 +1,13 @@
--- What a refused call gives: the closed search of an opening, and that the checks before its refusal's own have passed. Assumes nothing.
+-- What a refused call gives: the closed search of an opening; and that a call is refused exactly with what `Precedence` says. Assumes nothing.
 use Rattle.std.specs.Prelude.{Option, Ok, Err}
 use mathlib.Core.Path.{◌≡◌, refl, sym, ap, subst, ◌∙◌}
 use mathlib.Core.Bool.{Bool, true, false, not}
 use mathlib.Core.List.{List}
-use mathlib.Core.Logic.{⊎_elim}
+use mathlib.Core.Logic.{◌↔◌, ⊎_elim}
 use native.Mathlib.Nat.{eq-or-lt_of_le}
 use native.Mathlib.Omega.{arith}
 use mathlib.Core.Bool.{◌&&◌}
-use Prim.Native.Nat.{ℕ, zero, suc, ◌+◌, ◌<◌}
+use Prim.Native.Nat.{◌≤◌, ℕ, zero, suc, ◌+◌, ◌<◌}
 use Rattle.std.specs.Prelude.{leb, eqb}
 use Rattle.std.proofs.lemmas.Bool.Decides.{nat_tests}
 use Rattle.rules.specs.View.{is_ended}
@@ -17,7 +17,7 @@ use Rattle.rules.specs.Trial.{no_axis}
 use Rattle.rules.specs.Refusals.{Verdict, check}
 use Rattle.rules.specs.Opening.{all_in_range, in_limits, in_step, in_coefficients, in_threshold, rule_of, axis_checks, axes_checks, open_verdict, closed, opening}
 use Rattle.rules.specs.Calls.{undamaged, ask_verdict, tell_verdict, best_verdict}
-use Rattle.rules.specs.Precedence.{Fits, Fit, OpeningRefused, AskRefused, TellRefused, BestRefused}
+use Rattle.rules.specs.Precedence.{Fits, Fit, AxisRefused, OpeningRefused, AskRefused, TellRefused, BestRefused}
 use Rattle.rules.specs.declared.Axis.{Axis}
 use Rattle.rules.specs.declared.Coefficients.{Coefficients}
 use Rattle.rules.specs.declared.Rule.{Rule}
@@ -69,6 +69,27 @@ axes_refuse P (suc k) i xs v r h before c g =
     (λ f m. axes_refuse P k (suc i) xs v r m (λ a l. ⊎_elim (λ e. rw e f) (λ b. before a b) (eq-or-lt_of_le (omega arith)))
     (λ a l. c a (omega arith)) (λ d. g (λ a l. d a (omega arith))))
 
+-- an axis that fits lets the checks after it decide
+axis_lets : (i : ℕ) (x : Axis) (v : Verdict) → Fits x → axis_checks i x v ≡ v
+axis_lets i x v f = rw (f.range, f.limits, f.step) refl
+
+-- so do k axes from the i-th on
+axes_let : (k i : ℕ) (xs : List Axis) (v : Verdict) → ((a : ℕ) → a < i + k → Fits (get_or xs a no_axis)) → axes_checks k i xs v ≡ v
+unfolding axes_checks
+axes_let zero i xs v f = refl
+axes_let (suc k) i xs v f =
+    axis_lets (i + 1) (get_or xs i no_axis) (axes_checks k (suc i) xs v) (f i (omega arith)) ∙ axes_let k (suc i) xs v (λ a l. f a (omega arith))
+
+-- where axis a, from 0, refuses whatever follows it, and the axes before it fit, all refuse so
+axes_fail : (k i : ℕ) (xs : List Axis) (v : Verdict) (r : Refusal) (a : ℕ) → i ≤ a → a < i + k → ((j : ℕ) → j < a → Fits (get_or xs j no_axis))
+    → ((w : Verdict) → axis_checks (a + 1) (get_or xs a no_axis) w ≡ Err r) → axes_checks k i xs v ≡ Err r
+unfolding axes_checks
+axes_fail zero i xs v r a l u before own = absurd (omega arith)
+axes_fail (suc k) i xs v r a l u before own =
+    ⊎_elim (λ e. rw (← e) at own (axes_checks k (suc i) xs v))
+    (λ m. axis_lets (i + 1) (get_or xs i no_axis) (axes_checks k (suc i) xs v) (before i m) ∙ axes_fail k (suc i) xs v r a m (omega arith) before own)
+    (eq-or-lt_of_le l)
+
 module _ (n : ℕ) (axes : List Axis) (rule : Option Rule) (c : Coefficients) (budget : ℕ) where
   -- "A refused opening returns a closed search"
   pub refused_closed : (r : Refusal) → open_verdict n axes rule c budget ≡ Err r → (opening n axes rule c budget).search ≡ closed
@@ -86,10 +107,10 @@ module _ (n : ℕ) (axes : List Axis) (rule : Option Rule) (c : Coefficients) (b
         step = λ d e f. record { axis = a; from_1 = refl; one_of = l; before = fit; own = (d, e, f) };
       }
 
-  -- the opening's checks run in table order
-  pub opening_refused : (r : Refusal) → open_verdict n axes rule c budget ≡ Err r → OpeningRefused n axes rule c budget r
+  -- a refused opening has failed the check of its refusal and passed those before
+  opening_fails : (r : Refusal) → open_verdict n axes rule c budget ≡ Err r → OpeningRefused n axes rule c budget r
   unfolding open_verdict
-  opening_refused r h =
+  opening_fails r h =
       let P = OpeningRefused n axes rule c budget in
       check_refuses P (leb 1 n && leb n 8) AxisCount _ r h (λ f. f)
       (λ p k. axes_refuse P n 0 axes _ r k (λ a l. absurd (omega arith)) (λ a l. axis_cases p a (omega arith))
@@ -99,29 +120,97 @@ module _ (n : ℕ) (axes : List Axis) (rule : Option Rule) (c : Coefficients) (b
       (λ q m2. check_refuses P (in_threshold (rule_of rule)) BadThreshold _ r m2 (λ f. (fit, q, f))
       (λ t m3. check_refuses P (leb (n + 1) budget && leb budget 1000000) BadBudget (Ok tt) r m3 (λ f. (fit, q, t, f)) (λ b k2. absurd cc)))))
 
+  -- where an axis refuses after all that stands before it, so does the opening
+  axis_given : (r : Refusal) (i : ℕ) (Own : Axis → Type 0) → AxisRefused n axes i Own → ((x : Axis) (w : Verdict) → Own x → axis_checks i x w ≡ Err r)
+      → open_verdict n axes rule c budget ≡ Err r
+  unfolding open_verdict
+  axis_given r i Own h own =
+      rw h.before.count
+      (axes_fail n 0 axes _ r h.axis (omega arith) (omega arith) h.before.each (λ w. rw (← h.from_1) (own (get_or axes h.axis no_axis) w h.own)))
+
+  -- where the count and the axes are good, the checks after them decide
+  later_given : Fit n n axes
+      → open_verdict n axes rule c budget
+      ≡ check (in_coefficients c) BadCoefficient
+      (check (in_threshold (rule_of rule)) BadThreshold (check (leb (n + 1) budget && leb budget 1000000) BadBudget (Ok tt)))
+  unfolding open_verdict
+  later_given fit = rw fit.count (axes_let n 0 axes _ (λ a l. fit.each a (omega arith)))
+
+  -- and where it has, it is refused so
+  opening_given : (r : Refusal) → OpeningRefused n axes rule c budget r → open_verdict n axes rule c budget ≡ Err r
+  unfolding open_verdict
+  opening_given AxisCount f = rw f refl
+  opening_given (OutOfRange i) h = axis_given (OutOfRange i) i _ h (λ x w o. rw o refl)
+  opening_given (BadLimits i) h = axis_given (BadLimits i) i _ h (λ x w o. rw (o.0, o.1) refl)
+  opening_given (BadStep i) h = axis_given (BadStep i) i _ h (λ x w o. rw (o.0, o.1, o.2) refl)
+  opening_given BadCoefficient h = later_given h.0 ∙ rw h.1 refl
+  opening_given BadThreshold h = later_given h.0 ∙ rw (h.1, h.2) refl
+  opening_given BadBudget h = later_given h.0 ∙ rw (h.1, h.2, h.3) refl
+  opening_given r h = absurd h
+
+  -- the opening's checks run in table order
+  pub opening_checks : (r : Refusal) → (open_verdict n axes rule c budget ≡ Err r) ↔ OpeningRefused n axes rule c budget r
+  opening_checks r = (opening_fails r, opening_given r)
+
 module _ (s : Search) where
-  -- an ask's checks run in table order
-  pub ask_refused : (r : Refusal) → ask_verdict s ≡ Err r → AskRefused s r
+  -- a refused ask has failed the check of its refusal and passed those before
+  ask_fails : (r : Refusal) → ask_verdict s ≡ Err r → AskRefused s r
   unfolding ask_verdict
-  ask_refused r h =
+  ask_fails r h =
       let P = AskRefused s in
       check_refuses P (undamaged s) Damaged _ r h (λ f. f)
       (λ p k. check_refuses P (not (is_ended s.phase)) SearchEnded (Ok tt) r k (λ f. (p, grind (arith, nat_tests))) (λ q m. absurd cc))
 
-  -- a tell's
-  pub tell_refused : (number cost : ℕ) (r : Refusal) → tell_verdict s number cost ≡ Err r → TellRefused s number cost r
-  unfolding tell_verdict
-  tell_refused number cost r h =
-      let P = TellRefused s number cost in
-      check_refuses P (undamaged s) Damaged _ r h (λ f. f)
-      (λ p k. check_refuses P (not (is_ended s.phase)) SearchEnded _ r k (λ f. (p, grind (arith, nat_tests)))
-      (λ q m. check_refuses P (eqb number (s.readings + 1)) WrongNumber _ r m (λ f. (p, not-true _ q, f))
-      (λ e m2. check_refuses P (leb cost 16777215) CostTooHigh (Ok tt) r m2 (λ f. (p, not-true _ q, e, f)) (λ l m3. absurd cc))))
+  -- and where it has, it is refused so
+  ask_given : (r : Refusal) → AskRefused s r → ask_verdict s ≡ Err r
+  unfolding ask_verdict
+  ask_given Damaged h = rw h refl
+  ask_given SearchEnded h = rw (h.0, h.1) refl
+  ask_given r h = absurd h
 
-  -- a best query's
-  pub best_refused : (r : Refusal) → best_verdict s ≡ Err r → BestRefused s r
+  -- an ask's checks run in table order
+  pub ask_checks : (r : Refusal) → (ask_verdict s ≡ Err r) ↔ AskRefused s r
+  ask_checks r = (ask_fails r, ask_given r)
+
+  module _ (number cost : ℕ) where
+    -- so with a tell
+    tell_fails : (r : Refusal) → tell_verdict s number cost ≡ Err r → TellRefused s number cost r
+    unfolding tell_verdict
+    tell_fails r h =
+        let P = TellRefused s number cost in
+        check_refuses P (undamaged s) Damaged _ r h (λ f. f)
+        (λ p k. check_refuses P (not (is_ended s.phase)) SearchEnded _ r k (λ f. (p, grind (arith, nat_tests)))
+        (λ q m. check_refuses P (eqb number (s.readings + 1)) WrongNumber _ r m (λ f. (p, not-true _ q, f))
+        (λ e m2. check_refuses P (leb cost 16777215) CostTooHigh (Ok tt) r m2 (λ f. (p, not-true _ q, e, f)) (λ l m3. absurd cc))))
+
+    -- and the other way round
+    tell_given : (r : Refusal) → TellRefused s number cost r → tell_verdict s number cost ≡ Err r
+    unfolding tell_verdict
+    tell_given Damaged h = rw h refl
+    tell_given SearchEnded h = rw (h.0, h.1) refl
+    tell_given WrongNumber h = rw (h.0, h.1, h.2) refl
+    tell_given CostTooHigh h = rw (h.0, h.1, h.2, h.3) refl
+    tell_given r h = absurd h
+
+    -- a tell's checks run in table order
+    pub tell_checks : (r : Refusal) → (tell_verdict s number cost ≡ Err r) ↔ TellRefused s number cost r
+    tell_checks r = (tell_fails r, tell_given r)
+
+  -- and so with a best query
+  best_fails : (r : Refusal) → best_verdict s ≡ Err r → BestRefused s r
   unfolding best_verdict
-  best_refused r h =
+  best_fails r h =
       let P = BestRefused s in
       check_refuses P (undamaged s) Damaged _ r h (λ f. f)
       (λ p k. check_refuses P (not (eqb s.readings 0)) NoReading (Ok tt) r k (λ f. (p, grind (arith, nat_tests))) (λ q m. absurd cc))
+
+  -- and the other way round
+  best_given : (r : Refusal) → BestRefused s r → best_verdict s ≡ Err r
+  unfolding best_verdict
+  best_given Damaged h = rw h refl
+  best_given NoReading h = rw (h.0, h.1) refl
+  best_given r h = absurd h
+
+  -- a best query's checks run in table order
+  pub best_checks : (r : Refusal) → (best_verdict s ≡ Err r) ↔ BestRefused s r
+  best_checks r = (best_fails r, best_given r)
