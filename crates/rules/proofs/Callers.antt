@@ -2,8 +2,8 @@
 use Rattle.std.specs.Prelude.{Option, Result, Ok, Err}
 use mathlib.Core.Path.{◌≡◌, refl, sym, ap, ◌∙◌, subst}
 use mathlib.Core.Bool.{Bool, true, false, cond, and-eq-true_iff, not}
-use mathlib.Core.List.{List, [], ◌∷◌, ◌++◌}
-use mathlib.Core.Logic.{◌↔◌, ⊎_elim}
+use mathlib.Core.List.{List, [], ◌∷◌, ◌++◌, Memᴰ}
+use mathlib.Core.Logic.{◌↔◌, ◌⊎◌, ⊎_elim}
 use Prim.Native.Nat.{ℕ, ◌+◌, ◌*◌, ◌≤◌, ◌<◌}
 use native.Mathlib.Omega.{arith}
 use lib.ListN.{length, get_or, length-append}
@@ -14,12 +14,12 @@ use Rattle.std.proofs.lemmas.Bool.{cases_Bool}
 use Rattle.rules.specs.Binary64.{◌≤ᶠ◌}
 use Rattle.rules.specs.Numbers.{max_cost}
 use Rattle.rules.specs.View.{is_ended}
-use Rattle.rules.specs.Trial.{no_axis, trial}
+use Rattle.rules.specs.Trial.{no_axis, target, trial}
 use Rattle.rules.specs.Refusals.{Verdict, check, answered}
 use Rattle.rules.specs.Opening.{opening, fresh}
 use Rattle.rules.specs.Calls.{undamaged, ask_verdict, tell_verdict, best_verdict, asking, telling, showing, told_by}
 use Rattle.rules.specs.History.{Call, tell, Event, told, after1, after, run, costs_in, joins, history1, history_from, history, reading}
-use Rattle.rules.specs.Claims.{Within, Claims}
+use Rattle.rules.specs.Claims.{Within, StopsOf, Claims}
 use Rattle.rules.specs.declared.Rule.{Rule}
 use Rattle.rules.specs.declared.Axis.{Axis}
 use Rattle.rules.specs.declared.Coefficients.{Coefficients}
@@ -163,14 +163,32 @@ module _ (n : ℕ) (axes : List Axis) (rule : Option Rule) (coefficients : Coeff
       let e = opened_axis n axes rule coefficients budget (opened_verdict n axes rule coefficients budget accepted) a l in
       subst (λ (y : Axis). ((y.lo ≤ᶠ get_or x a nan) ≡ true) × ((get_or x a nan ≤ᶠ y.hi) ≡ true)) e (given a l)
 
-  pub controller_asked : (cs : List Call) → is_ended (reached cs).phase ≡ false → (a : Asked) × (asking (reached cs) ≡ Ok a) × Permitted a.point
+  pub controller_asked : (cs : List Call) → is_ended (reached cs).phase ≡ false → (a : Asked) × (asking (reached cs) ≡ Ok a) × Permitted a.trial.point
   controller_asked cs e =
-      let a : Asked = record { number = length (accepted_costs cs) + 1; point = trial (run opened_search (accepted_history cs)) } in
+      let a : Asked = record { number = length (accepted_costs cs) + 1; trial = trial (run opened_search (accepted_history cs)) } in
       let answers : asking (reached cs) ≡ Ok a = (claims cs).asks e in
-      (a, answers, permitted a.point ((claims cs).within_asked a answers))
+      (a, answers, permitted a.trial.point ((claims cs).within_asked a answers))
 
   pub controller_told : (cs : List Call) (k : ℕ) → k < length (accepted_costs cs) → Permitted (reading opened_search (accepted_history cs) k).point
   controller_told cs k l = permitted (reading opened_search (accepted_history cs) k).point ((claims cs).within_told k l)
+
+  -- its stops are as many axes, each another one, that stand on a limit that the opening gave
+  abbrev pub OnLimit : List Float → ℕ → Type 0
+  OnLimit x i = (i < n) × ((get_or x i nan ≡ (get_or axes i no_axis).lo) ⊎ (get_or x i nan ≡ (get_or axes i no_axis).hi))
+
+  pub controller_stops : (cs : List Call) (a : Asked) → asking (reached cs) ≡ Ok a
+      → (xs : List ℕ) × (a.trial.stops ≡ length xs) × ((i j : ℕ) → i < j → j < length xs → get_or xs i 0 < get_or xs j 0) × ((i : ℕ) → Memᴰ i xs → OnLimit a.trial.point i)
+  unfolding fresh
+  controller_stops cs a e =
+      let x = a.trial.point in
+      let now = run opened_search (accepted_history cs) in
+      let given = opened_axis n axes rule coefficients budget (opened_verdict n axes rule coefficients budget accepted) in
+      let s : StopsOf (fresh n axes rule coefficients budget).setup (target now now.phase) a.trial =
+      subst (λ (t : Setup). StopsOf t (target now now.phase) a.trial) setup_given ((claims cs).stops_asked a e) in
+      let stands : (i : ℕ) → Memᴰ i s.axes → OnLimit x i = λ i m.
+      let l = ((s.outside i).0 m).0 in
+      (l, subst (λ (y : Axis). (get_or x i nan ≡ y.lo) ⊎ (get_or x i nan ≡ y.hi)) (given i l) (s.on_limit i m)) in
+      (s.axes, s.many, s.rising, stands)
 
   -- an ended search proposes nothing more
   pub controller_ended : (cs : List Call) → is_ended (reached cs).phase ≡ true → asking (reached cs) ≡ Err SearchEnded

@@ -6,10 +6,11 @@ use Prim.Native.Nat.{ℕ, ◌<◌}
 use native.Mathlib.Omega.{arith}
 use lib.ListN.{length, take}
 use Rattle.rules.specs.Opening.{opening}
+use Rattle.rules.specs.Trial.{target}
 use Rattle.rules.specs.Calls.{standing_of, asking}
 use Rattle.rules.specs.History.{Event, told, Call, after, run, costs_in, history, reading, EarliestLeast}
 use Rattle.rules.specs.Tally.{readings_by, Ends}
-use Rattle.rules.specs.Claims.{Within, BoundAfter, FullRound, Claims}
+use Rattle.rules.specs.Claims.{Within, StopsOf, BoundAfter, FullRound, Claims}
 use Rattle.rules.specs.declared.Rule.{Rule}
 use Rattle.rules.specs.declared.Axis.{Axis}
 use Rattle.rules.specs.declared.Coefficients.{Coefficients}
@@ -23,7 +24,7 @@ use Rattle.rules.specs.declared.Cause.TheVariants.{Settled}
 use Rattle.rules.proofs.Laws.Openings.{opened_verdict, opened_fresh, opened_sane}
 use Rattle.rules.proofs.Laws.Histories.{Joined}
 use Rattle.rules.proofs.Runs.Begun.{Begun, fresh_begun, whole_run, run_inv, run_readings, run_counts, run_probes, run_unfinished, run_standing, run_places, run_vertices}
-use Rattle.rules.proofs.Runs.Moments.{run_first, made_since, falls_since, run_settled_only, run_settled_when, run_spent, run_within, run_within_told}
+use Rattle.rules.proofs.Runs.Moments.{run_first, made_since, falls_since, run_settled_only, run_settled_when, run_spent, run_within, run_within_told, run_stops}
 use Rattle.rules.proofs.Runs.Calling.{telling_joins, asking_answers, asked_trial, showing_best, all_follow}
 
 -- every claim, of the rules over an accepted history
@@ -43,8 +44,11 @@ module _ (o : Search) (begun : Begun o) where
       → (since ≡ []) × ((run o h).phase ≡ Ended Settled)
   settled_of h t before round since is f = rw is (run_settled_when o begun before round since (rw is at t) f)
 
-  within_asked_lem : (h : List Event) (t : Joined o h) (a : Asked) → asking (run o h) ≡ Ok a → Within o.setup a.point
+  within_asked_lem : (h : List Event) (t : Joined o h) (a : Asked) → asking (run o h) ≡ Ok a → Within o.setup a.trial.point
   within_asked_lem h t a e = rw (asked_trial o begun h t a e).1 (run_within o begun h t)
+
+  stops_lem : (h : List Event) (t : Joined o h) (a : Asked) → asking (run o h) ≡ Ok a → StopsOf o.setup (target (run o h) (run o h).phase) a.trial
+  stops_lem h t a e = rw (asked_trial o begun h t a e).1 (run_stops o begun h t)
 
   equation_of : (h : List Event) (t : Joined o h) → 0 < length (costs_in h) → (run o h).readings ≡ readings_by o.setup.n (run o h).counts
   equation_of h t l =
@@ -75,6 +79,7 @@ module _ (o : Search) (begun : Begun o) where
         spent = run_spent o begun h t;
         within_told = λ k l. run_within_told o begun h t k;
         within_asked = within_asked_lem h t;
+        stops_asked = stops_lem h t;
       }
 
   pub claim_begun : (cs : List Call) → Claims o (history o cs) (after o cs)

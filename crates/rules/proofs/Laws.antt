@@ -4,6 +4,7 @@ pub mod Lists
 pub mod Order
 pub mod Places
 pub mod Clamp
+pub mod Stopped
 pub mod Openings
 pub mod Refusing
 pub mod Histories

@@ -149,4 +149,4 @@ acted d v s =
 
 -- the search after an accepted reading of cost c
 unfoldable pub accept : Search → ℕ → Search
-accept s c = acted (decided s.phase s c) (record { point = trial s; cost = c }) s
+accept s c = acted (decided s.phase s c) (record { point = (trial s).point; cost = c }) s

@@ -94,7 +94,7 @@ best_verdict s = check (undamaged s) Damaged (check (not (eqb s.readings 0)) NoR
 
 -- ask: "Ask answers the trial and its reading number and changes nothing"
 unfoldable pub asking : Search → Result Asked Refusal
-asking s = answered (ask_verdict s) (record { number = s.readings + 1; point = trial s })
+asking s = answered (ask_verdict s) (record { number = s.readings + 1; trial = trial s })
 
 -- what a tell answers, and the search after it
 pub record Told : Type 0 where

@@ -1,10 +1,11 @@
 -- Demand 3: the claim about every list of calls on a newly opened search, stated whole.
-use Rattle.std.specs.Prelude.{◌≡◌, ◌↔◌, true, false, cond, ℕ, ◌+◌, ◌*◌, ◌<◌, ◌≤◌, length, get_or, take, eqb, Float, Ok}
+use Rattle.std.specs.Prelude.{◌≡◌, ◌↔◌, true, false, cond, ◌&&◌, ℕ, ◌+◌, ◌*◌, ◌<◌, ◌≤◌, length, get_or, take, eqb, Float, Ok}
 use mathlib.Core.List.{List, [], ◌∷◌, ◌++◌, map, Memᴰ}
+use mathlib.Core.Logic.{◌⊎◌}
 use Rattle.std.specs.Float.{nan}
 use Rattle.rules.specs.Binary64.{◌≤ᶠ◌}
 use Rattle.rules.specs.Simplex.{cost_of, Ordered}
-use Rattle.rules.specs.Trial.{axis, trial}
+use Rattle.rules.specs.Trial.{axis, target, trial}
 use Rattle.rules.specs.Stop.{total}
 use Rattle.rules.specs.View.{is_ended}
 use Rattle.rules.specs.Count.{count_in}
@@ -16,6 +17,7 @@ use Rattle.rules.specs.declared.Piece.TheVariants.{Build, Shrink}
 use Rattle.rules.specs.declared.Phase.TheVariants.{Probing, Ended}
 use Rattle.rules.specs.declared.Cause.TheVariants.{Settled, Budget}
 use Rattle.rules.specs.declared.Vertex.{Vertex}
+use Rattle.rules.specs.declared.Trial.{Trial}
 use Rattle.rules.specs.declared.Asked.{Asked}
 use Rattle.rules.specs.declared.Setup.{Setup}
 use Rattle.rules.specs.declared.Search.{Search}
@@ -23,6 +25,18 @@ use Rattle.rules.specs.declared.Search.{Search}
 -- the point x lies within the limits of each axis, by the clamp's own comparisons
 abbrev pub Within : Setup → List Float → Type 0
 Within t x = (a : ℕ) → a < t.n → (((axis t a).lo ≤ᶠ get_or x a nan) ≡ true) × ((get_or x a nan ≤ᶠ (axis t a).hi) ≡ true)
+
+-- the stops of the trial x count these axes, f being its numbers before the clamp: "every trial carries how many axes were so changed"
+pub record StopsOf (t : Setup) (f : ℕ → Float) (x : Trial) : Type 0 where
+  -- as many as counted, each once, since each is higher than the one before it
+  pub axes : List ℕ
+  pub many : x.stops ≡ length axes
+  pub rising : (i j : ℕ) → i < j → j < length axes → get_or axes i 0 < get_or axes j 0
+  pub at_most_n : x.stops ≤ t.n
+  -- an axis counts exactly where its number fails lo ≤ v or v ≤ hi, and exactly where its coordinate is another number; it stands on a limit
+  pub outside : (a : ℕ) → Memᴰ a axes ↔ ((a < t.n) × ((((axis t a).lo ≤ᶠ f a) && (f a ≤ᶠ (axis t a).hi)) ≡ false))
+  pub moved : (a : ℕ) → Memᴰ a axes ↔ ((a < t.n) × (get_or x.point a nan ≡ f a → ⊥))
+  pub on_limit : (a : ℕ) → Memᴰ a axes → (get_or x.point a nan ≡ (axis t a).lo) ⊎ (get_or x.point a nan ≡ (axis t a).hi)
 
 -- S: "adds the costs standing at that end", after the history h
 abbrev pub standing_total : Search → List Event → ℕ
@@ -49,7 +63,7 @@ pub record Claims (o : Search) (h : List Event) (s : Search) : Type 0 where
   pub kept : s.setup ≡ o.setup
   -- "A tell is accepted .. exactly when", and "trial k is the point that the rules ask .., which ask then answers"
   pub accepts : (k c : ℕ) → ((telling s k c).verdict ≡ Ok tt) ↔ (joins o h k c ≡ true)
-  pub asks : is_ended s.phase ≡ false → asking s ≡ Ok (record { number = length (costs_in h) + 1; point = trial (run o h) })
+  pub asks : is_ended s.phase ≡ false → asking s ≡ Ok (record { number = length (costs_in h) + 1; trial = trial (run o h) })
   -- order: "Vertices are ordered by cost, lowest first"
   pub sorted : Ordered (standing_of s)
   -- vertices: the simplex is empty before the first build ends, n + 1 vertices afterwards, and each is an accepted reading
@@ -77,4 +91,6 @@ pub record Claims (o : Search) (h : List Event) (s : Search) : Type 0 where
   pub spent : (s.phase ≡ Ended Budget) ↔ ((length (costs_in h) ≡ o.setup.budget) × (s.phase ≡ Ended Settled → ⊥))
   -- every trial lies within the axis limits: those told, and the one that is asked
   pub within_told : (k : ℕ) → k < length (costs_in h) → Within o.setup (reading o h k).point
-  pub within_asked : (a : Asked) → asking s ≡ Ok a → Within o.setup a.point
+  pub within_asked : (a : Asked) → asking s ≡ Ok a → Within o.setup a.trial.point
+  -- the stops that ask answers, against the numbers that the rules ask for
+  pub stops_asked : (a : Asked) → asking s ≡ Ok a → StopsOf o.setup (target (run o h) (run o h).phase) a.trial

@@ -62,7 +62,7 @@ after_costs s cs = run s (map told cs)
 
 -- the next trial
 abbrev pub next : Search → Shows
-next s = asks (bits_at (trial s) 0) (bits_at (trial s) 1)
+next s = asks (bits_at (trial s).point 0) (bits_at (trial s).point 1)
 
 -- the standing vertex at a place, from 1
 abbrev pub stands_at : Vertex → Shows

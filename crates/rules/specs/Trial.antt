@@ -1,10 +1,11 @@
 -- "Build", "Iteration" and the probes of "Stopping, probe, restart": the point that a search asks for next, by its phase.
-use Rattle.std.specs.Prelude.{cond, List, ℕ, zero, suc, ◌+◌, ◌-◌, ◌*◌, ◌/◌, ◌%◌, get_or, eqb, Float}
+use Rattle.std.specs.Prelude.{Bool, cond, List, ℕ, zero, suc, ◌+◌, ◌-◌, ◌*◌, ◌/◌, ◌%◌, get_or, eqb, Float}
 use Rattle.std.specs.Float.{nan}
-use Rattle.rules.specs.Binary64.{probe_factor, float, clamp, ◌⊕◌, ◌⊖◌, ◌⊗◌, ◌⊘◌, ◌≤ᶠ◌}
+use Rattle.rules.specs.Binary64.{probe_factor, float, clamp, clamp_changes, ◌⊕◌, ◌⊖◌, ◌⊗◌, ◌⊘◌, ◌≤ᶠ◌}
 use Rattle.rules.specs.Simplex.{point}
 use Rattle.rules.specs.declared.Axis.{Axis}
 use Rattle.rules.specs.declared.Setup.{Setup}
+use Rattle.rules.specs.declared.Trial.{Trial}
 use Rattle.rules.specs.declared.Search.{Search}
 use Rattle.rules.specs.declared.Phase.{Phase}
 use Rattle.rules.specs.declared.Phase.TheVariants.{Building, Reflecting, Expanding, Contracting, Shrinking, Probing, Ended}
@@ -21,6 +22,10 @@ axis t a = get_or t.axes a no_axis
 -- "Every trial is clamped axis by axis"
 abbrev pub clamped : Setup → ℕ → Float → Float
 clamped t a v = clamp (axis t a).lo (axis t a).hi v
+
+-- whether that changes v on axis a
+abbrev pub stopped : Setup → ℕ → Float → Bool
+stopped t a v = clamp_changes (axis t a).lo (axis t a).hi v
 
 -- coordinate a of the point at place i, both from 0: "vertex and axis giving the index"
 abbrev pub entry : List Float → ℕ → ℕ → Float
@@ -82,14 +87,23 @@ target s (Shrinking j) a = shrunk s.setup s.standing.points j a
 target s (Probing p) a = probe_step (axis s.setup a) (get_or s.best.point a nan) p a
 target s (Ended cause) a = nan
 
--- coordinate a of the trial that it would ask there: "Every trial is clamped axis by axis"
-abbrev pub asked : Search → Phase → ℕ → Float
-asked s p a = clamped s.setup a (target s p a)
+-- how many of the first k axes "were so changed", f being the numbers before the clamp
+unfoldable pub stops_to : Setup → (ℕ → Float) → ℕ → ℕ
+stops_to t f zero = 0
+stops_to t f (suc k) = stops_to t f k + cond (stopped t k (f k)) 1 0
 
--- the point that it would ask there
+-- the numbers f of the first n axes as a trial: "Every trial is clamped axis by axis", and "carries how many axes were so changed"
+abbrev pub made : Setup → ℕ → (ℕ → Float) → Trial
+made t n f = record { point = point n (λ a. clamped t a (f a)); stops = stops_to t f n }
+
+-- the trial that the search s would ask in each phase
+abbrev pub trial_in : Phase → Search → Trial
+trial_in p s = made s.setup s.setup.n (target s p)
+
+-- its point
 abbrev pub point_in : Phase → Search → List Float
-point_in p s = point s.setup.n (asked s p)
+point_in p s = (trial_in p s).point
 
--- the trial: "the point that the rules ask"
-unfoldable pub trial : Search → List Float
-trial s = point_in s.phase s
+-- the trial: "the point that the rules ask", with its stops
+unfoldable pub trial : Search → Trial
+trial s = trial_in s.phase s

@@ -33,7 +33,7 @@ begun o = fresh o.n o.axes o.rule o.coefficients o.budget
 
 -- the coordinates that a search asks for, by their bits; none where it has ended
 abbrev pub asked_bits : Search → List ℕ
-asked_bits s = cond (is_ended s.phase) [] (map (to_bits binary64) (take s.setup.n (trial s)))
+asked_bits s = cond (is_ended s.phase) [] (map (to_bits binary64) (take s.setup.n (trial s).point))
 
 -- what a search asks for before each of these costs, and after the last
 unfoldable pub walk : Search → List ℕ → List (List ℕ)

@@ -146,6 +146,13 @@ pub enum Decision {
     Restart,
 }
 
+// A point to be measured, and how many axes of it the clamp changed: its stops. Coordinates past the axis count are 0.
+#[derive(Clone, Copy, Default)]
+pub struct Trial {
+    pub point: [f64; 8],
+    pub stops: u64,
+}
+
 // A point with its cost. Coordinates past the axis count are 0.
 #[derive(Clone, Copy, Default)]
 pub struct Vertex {
@@ -229,5 +236,5 @@ pub struct Opened {
 #[derive(Clone, Copy, Default)]
 pub struct Asked {
     pub number: u64,
-    pub point: [f64; 8],
+    pub trial: Trial,
 }

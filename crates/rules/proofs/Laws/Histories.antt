@@ -21,7 +21,7 @@ use Rattle.rules.specs.Tally.{finishes, pieces, count_of, made}
 
 -- the trial of a search with its cost
 abbrev pub reading_of : Search → ℕ → Vertex
-reading_of s c = record { point = trial s; cost = c }
+reading_of s c = record { point = (trial s).point; cost = c }
 
 -- the readings that an event is
 abbrev pub read_by : Search → Event → List Vertex

@@ -13,11 +13,11 @@ use borrow.Author.Tests.{leb-true}
 use Rattle.std.proofs.lemmas.List.{places}
 use Rattle.rules.specs.Binary64.{◌≤ᶠ◌, ◌<ᶠ◌}
 use Rattle.rules.specs.Numbers.{max_budget}
-use Rattle.rules.specs.Trial.{no_axis, axis, clamped, target, asked, trial}
+use Rattle.rules.specs.Trial.{no_axis, axis, clamped, target, trial}
 use Rattle.rules.specs.Refusals.{Verdict, check, answered}
 use Rattle.rules.specs.Opening.{in_threshold, axis_checks, axes_checks, rule_of, keep, fresh, opened_by, open_verdict, opening}
 use Rattle.rules.specs.Calls.{sound_rule}
-use Rattle.rules.specs.Claims.{Within}
+use Rattle.rules.specs.Claims.{Within, StopsOf}
 use Rattle.rules.specs.declared.Axis.{Axis}
 use Rattle.rules.specs.declared.Coefficients.{Coefficients}
 use Rattle.rules.specs.declared.Rule.{Rule}
@@ -27,6 +27,7 @@ use Rattle.rules.specs.declared.Search.{Search}
 use Rattle.rules.specs.declared.Refusal.{Refusal}
 use Rattle.rules.proofs.Laws.Lists.{get_or_point}
 use Rattle.rules.proofs.Laws.Clamp.{lt_le, clamp_low, clamp_high}
+use Rattle.rules.proofs.Laws.Stopped.{stops_of}
 
 -- ---- checks that pass
 
@@ -136,6 +137,11 @@ clamped_within t h a l v =
     (clamp_low x.lo x.hi v (h.limits a l), clamp_high x.lo x.hi v (h.limits a l))
 
 -- every trial lies within its limits
-pub trial_within : (s : Search) → Sane s.setup → Within s.setup (trial s)
+pub trial_within : (s : Search) → Sane s.setup → Within s.setup (trial s).point
 unfolding trial
-trial_within s h a l = rw (get_or_point s.setup.n (asked s s.phase) a l) (clamped_within s.setup h a l (target s s.phase a))
+trial_within s h a l = rw (get_or_point s.setup.n (λ b. clamped s.setup b (target s s.phase b)) a l) (clamped_within s.setup h a l (target s s.phase a))
+
+-- its stops count the axes on which the clamp acts
+pub trial_stops : (s : Search) → Sane s.setup → StopsOf s.setup (target s s.phase) (trial s)
+unfolding trial
+trial_stops s h = stops_of s.setup (target s s.phase) h.limits

@@ -65,17 +65,17 @@ module _ (o : Search) (begun : Begun o) (h : List Event) (t : Joined o h) where
 
   -- ---- ask
 
-  pub asking_answers : is_ended (run o h).phase ≡ false → asking (run o h) ≡ Ok (record { number = length (costs_in h) + 1; point = trial (run o h) })
+  pub asking_answers : is_ended (run o h).phase ≡ false → asking (run o h) ≡ Ok (record { number = length (costs_in h) + 1; trial = trial (run o h) })
   unfolding asking ask_verdict
   asking_answers e = rw (run_undamaged, e, run_readings o begun h t)
 
-  -- ask answers only where the search has not ended, and its point is the trial of the rules
-  pub asked_trial : (a : Asked) → asking (run o h) ≡ Ok a → (is_ended (run o h).phase ≡ false) × (a.point ≡ trial (run o h))
+  -- ask answers only where the search has not ended, and its trial is that of the rules
+  pub asked_trial : (a : Asked) → asking (run o h) ≡ Ok a → (is_ended (run o h).phase ≡ false) × (a.trial ≡ trial (run o h))
   unfolding asking ask_verdict
   asked_trial a e =
-      let p = answered_ok (ask_verdict (run o h)) (record { number = (run o h).readings + 1; point = trial (run o h) }) a e in
+      let p = answered_ok (ask_verdict (run o h)) (record { number = (run o h).readings + 1; trial = trial (run o h) }) a e in
       let q = simp check_iff at p.0 in
-      (not-true (is_ended (run o h).phase) q.1.0, ap (λ (b : Asked). b.point) p.1)
+      (not-true (is_ended (run o h).phase) q.1.0, ap (λ (b : Asked). b.trial) p.1)
 
   -- ---- best
 

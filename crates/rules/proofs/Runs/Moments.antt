@@ -9,11 +9,11 @@ use lib.ListN.{length, take, length-append}
 use lib.Seq.{append_snoc}
 use Rattle.std.proofs.lemmas.Bool.{true_from_ne_false}
 use Rattle.rules.specs.View.{is_ended}
-use Rattle.rules.specs.Trial.{trial}
+use Rattle.rules.specs.Trial.{target, trial}
 use Rattle.rules.specs.Calls.{standing_of}
 use Rattle.rules.specs.History.{Event, told, run, costs_in, before_cost, reading, EarliestLeast}
 use Rattle.rules.specs.Tally.{made, others, Ends}
-use Rattle.rules.specs.Claims.{Within, standing_total, FullRound}
+use Rattle.rules.specs.Claims.{Within, StopsOf, standing_total, FullRound}
 use Rattle.rules.specs.declared.Vertex.{Vertex}
 use Rattle.rules.specs.declared.Setup.{Setup}
 use Rattle.rules.specs.declared.Search.{Search}
@@ -22,7 +22,7 @@ use Rattle.rules.specs.declared.Phase.TheVariants.{Ended}
 use Rattle.rules.specs.declared.Cause.TheVariants.{Settled, Budget}
 use Rattle.rules.specs.declared.Piece.{Piece}
 use Rattle.rules.specs.declared.Piece.TheVariants.{Build, Shrink}
-use Rattle.rules.proofs.Laws.Openings.{trial_within}
+use Rattle.rules.proofs.Laws.Openings.{trial_within, trial_stops}
 use Rattle.rules.proofs.Laws.Histories.{readings_of, Joins, Joined, run_append, run_snoc, costs_in_append, made_append, reading_append, joined_left, joined_right, joined_before, ended_last}
 use Rattle.rules.proofs.Steps.Invariant.{Leads}
 use Rattle.rules.proofs.Steps.Accepting.{event_step}
@@ -129,10 +129,17 @@ module _ (o : Search) (begun : Begun o) where
 
   -- ---- within the limits
 
-  pub run_within : (h : List Event) → Joined o h → Within o.setup (trial (run o h))
+  pub run_within : (h : List Event) → Joined o h → Within o.setup (trial (run o h)).point
   run_within h t =
       let r = whole_run o begun h t in
-      subst (λ (t : Setup). Within t (trial (run o h))) r.kept (trial_within (run o h) r.inv.noted.sane)
+      subst (λ (t : Setup). Within t (trial (run o h)).point) r.kept (trial_within (run o h) r.inv.noted.sane)
 
   pub run_within_told : (h : List Event) → Joined o h → (k : ℕ) → Within o.setup (reading o h k).point
   run_within_told h t k = run_within (before_cost k h) (joined_before o h k t)
+
+  -- ---- the stops
+
+  pub run_stops : (h : List Event) → Joined o h → StopsOf o.setup (target (run o h) (run o h).phase) (trial (run o h))
+  run_stops h t =
+      let r = whole_run o begun h t in
+      subst (λ (t : Setup). StopsOf t (target (run o h) (run o h).phase) (trial (run o h))) r.kept (trial_stops (run o h) r.inv.noted.sane)
