@@ -47,7 +47,7 @@ pub(super) fn accept(s: &mut Search, cost: u64)
     requires { (Ready s.old) × (s.old.readings < max_budget) × (cost ≤ max_cost) }
     ensures { s.new ≡ accept s.old cost }
 {
-    let point = trial(s, s.phase);
+    let point = trial(s, s.phase).point;
     let v = Vertex { point, cost };
     let decision = decided(s, cost);
     let piece = finished_by(decision);

@@ -1,6 +1,6 @@
 // The arithmetic of one axis: the clamp, and the form of every move.
 ghost use Rattle.std.specs.Prelude.{◌≡◌};
-ghost use Rattle.rules.specs.Binary64.{clamp};
+ghost use Rattle.rules.specs.Binary64.{clamp, clamp_changes};
 ghost use Rattle.rules.specs.Trial.{move};
 
 use rules::Axis;
@@ -15,6 +15,13 @@ pub(super) fn clamp(x: &Axis, v: f64) -> f64
     } else {
         x.lo
     }
+}
+
+// Whether that changes v.
+pub(super) fn clamp_changes(x: &Axis, v: f64) -> bool
+    ensures { result ≡ clamp_changes x.now.lo x.now.hi v }
+{
+    !(x.lo <= v && v <= x.hi)
 }
 
 // from + k * (to - back), the form of every move.

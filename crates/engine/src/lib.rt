@@ -47,7 +47,7 @@ pub fn ask(search: &Search) -> Result<Asked, Refusal>
     sound::ask_verdict(search)?;
     Ok(Asked {
         number: search.readings + 1,
-        point: trial::trial(search, search.phase),
+        trial: trial::trial(search, search.phase),
     })
 }
 

@@ -23,7 +23,7 @@ fn shrink_movement(s: &Search) -> f64
     let mut sum = 0.0;
     for k in 0..n {
         let old = point_at(&s.standing, k + 1);
-        let new = trial(s, Phase::Shrinking(k + 1));
+        let new = trial(s, Phase::Shrinking(k + 1)).point;
         sum = distance(&old[..n], &new[..n], sum);
     }
     sum

@@ -1,45 +1,66 @@
 // The trial of each phase: one loop over the axes for each of them, so that no axis asks for the phase again, and the centroid once for all axes.
 // Each coordinate is clamped to its axis.
-ghost use Rattle.std.specs.Prelude.{◌≡◌, ◌≤◌, ◌<◌};
-ghost use Rattle.rules.specs.Simplex.{point};
-ghost use Rattle.rules.specs.Trial.{centroid, clamped, toward_reflected, toward_worst, point_in};
+ghost use Rattle.std.specs.Prelude.{◌≡◌, cond, replicate, ◌+◌, ◌≤◌, ◌<◌, set};
+ghost use Rattle.rules.specs.Binary64.{0ᶠ, clamp, clamp_changes};
+ghost use Rattle.rules.specs.Trial.{centroid, toward_reflected, toward_worst, made, trial_in};
 ghost use Rattle.rules.specs.declared.Phase.TheVariants.{Building, Reflecting, Shrinking, Probing};
 ghost use Rattle.engine.specs.Ready.{Askable};
 
 use super::centroid::centroid;
-use super::float::{clamp, moved_from};
+use super::float::{clamp, clamp_changes, moved_from};
 use super::point::{build_step, probe_step};
-use rules::{Phase, Search, Side};
+use rules::{Axis, Phase, Search, Side, Trial};
+
+// A trial before its first axis.
+fn nothing() -> Trial
+    ensures { result ≡ record { point = replicate 8 0ᶠ; stops = 0 } }
+{
+    Trial {
+        point: [0.0; 8],
+        stops: 0,
+    }
+}
+
+// A trial with the number v on axis a: within the limits, and a stop where that changes it.
+fn put(trial: &mut Trial, x: &Axis, a: usize, v: f64)
+    requires { (a < 8) × (trial.old.stops ≤ a) }
+    ensures { trial.new ≡ record { point = set trial.old.point a (clamp x.now.lo x.now.hi v); stops = trial.old.stops + cond (clamp_changes x.now.lo x.now.hi v) 1 0 } }
+{
+    trial.point[a] = clamp(x, v);
+    if clamp_changes(x, v) {
+        trial.stops += 1;
+    }
+}
 
 // Trial i of a build.
-#[tactic(auto, using(crate::proofs::Laws::Filling::point_more), unfolding(rules::specs::Simplex::up_to))]
-fn built(s: &Search, i: usize) -> [f64; 8]
+#[tactic(auto, using(crate::proofs::Laws::Filling::made_more, rules::proofs::Laws::Stopped::stops_low), unfolding(rules::specs::Simplex::up_to, rules::specs::Trial::stops_to))]
+fn built(s: &Search, i: usize) -> Trial
     requires { s.now.setup.n ≤ 8 }
-    ensures { result ≡ point_in (Building i) s.now }
+    ensures { result ≡ trial_in (Building i) s.now }
 {
     let n = s.setup.n;
-    let mut out = [0.0; 8];
+    let mut out = nothing();
     for a in 0..n {
         let x = &s.setup.axes[a];
-        out[a] = clamp(x, build_step(x, s.center[a], i, a));
+        put(&mut out, x, a, build_step(x, s.center[a], i, a));
     }
     out
 }
 
 // The reflected point.
-#[tactic(auto, using(crate::proofs::Laws::Filling::point_more), unfolding(rules::specs::Simplex::up_to))]
-fn reflected(s: &Search) -> [f64; 8]
+#[tactic(auto, using(crate::proofs::Laws::Filling::made_more, rules::proofs::Laws::Stopped::stops_low), unfolding(rules::specs::Simplex::up_to, rules::specs::Trial::stops_to))]
+fn reflected(s: &Search) -> Trial
     requires { (1 ≤ s.now.setup.n) × (s.now.setup.n ≤ 8) }
-    ensures { result ≡ point_in Reflecting s.now }
+    ensures { result ≡ trial_in Reflecting s.now }
 {
     let n = s.setup.n;
     let k = &s.setup.coefficients;
     let points = &s.standing.points;
     let c = centroid(points, n);
-    let mut out = [0.0; 8];
+    let mut out = nothing();
     for a in 0..n {
         let x = &s.setup.axes[a];
-        out[a] = clamp(x, moved_from(c[a], k.alpha, c[a], points[8 * n + a]));
+        put(&mut out, x, a, moved_from(c[a], k.alpha, c[a], points[8 * n + a]));
     }
     out
 }
@@ -56,77 +77,74 @@ fn toward_reflected(s: &Search, k: f64, c: f64, a: usize) -> f64
 }
 
 // The point k times as far from c as r: the expanded one and the outside one.
-#[tactic(auto, using(crate::proofs::Laws::Filling::point_more), unfolding(rules::specs::Simplex::up_to))]
-fn along(s: &Search, k: f64) -> [f64; 8]
+#[tactic(auto, using(crate::proofs::Laws::Filling::made_more, rules::proofs::Laws::Stopped::stops_low), unfolding(rules::specs::Simplex::up_to, rules::specs::Trial::stops_to))]
+fn along(s: &Search, k: f64) -> Trial
     requires { (1 ≤ s.now.setup.n) × (s.now.setup.n ≤ 8) }
-    ensures { result ≡ point s.now.setup.n (λ a. clamped s.now.setup a (toward_reflected s.now.setup s.now.standing.points k a)) }
+    ensures { result ≡ made s.now.setup s.now.setup.n (toward_reflected s.now.setup s.now.standing.points k) }
 {
     let n = s.setup.n;
     let c = centroid(&s.standing.points, n);
-    let mut out = [0.0; 8];
+    let mut out = nothing();
     for a in 0..n {
-        out[a] = clamp(&s.setup.axes[a], toward_reflected(s, k, c[a], a));
+        put(&mut out, &s.setup.axes[a], a, toward_reflected(s, k, c[a], a));
     }
     out
 }
 
 // The inside point.
-#[tactic(auto, using(crate::proofs::Laws::Filling::point_more), unfolding(rules::specs::Simplex::up_to))]
-fn inside(s: &Search) -> [f64; 8]
+#[tactic(auto, using(crate::proofs::Laws::Filling::made_more, rules::proofs::Laws::Stopped::stops_low), unfolding(rules::specs::Simplex::up_to, rules::specs::Trial::stops_to))]
+fn inside(s: &Search) -> Trial
     requires { (1 ≤ s.now.setup.n) × (s.now.setup.n ≤ 8) }
-    ensures { result ≡ point s.now.setup.n (λ a. clamped s.now.setup a (toward_worst s.now.setup s.now.standing.points a)) }
+    ensures { result ≡ made s.now.setup s.now.setup.n (toward_worst s.now.setup s.now.standing.points) }
 {
     let n = s.setup.n;
     let k = &s.setup.coefficients;
     let points = &s.standing.points;
     let c = centroid(points, n);
-    let mut out = [0.0; 8];
+    let mut out = nothing();
     for a in 0..n {
         let x = &s.setup.axes[a];
-        out[a] = clamp(x, moved_from(c[a], k.beta, points[8 * n + a], c[a]));
+        put(&mut out, x, a, moved_from(c[a], k.beta, points[8 * n + a], c[a]));
     }
     out
 }
 
 // The point that a shrink asks for place j, counted from 0.
-#[tactic(auto, using(crate::proofs::Laws::Filling::point_more), unfolding(rules::specs::Simplex::up_to))]
-fn shrunk(s: &Search, j: usize) -> [f64; 8]
+#[tactic(auto, using(crate::proofs::Laws::Filling::made_more, rules::proofs::Laws::Stopped::stops_low), unfolding(rules::specs::Simplex::up_to, rules::specs::Trial::stops_to))]
+fn shrunk(s: &Search, j: usize) -> Trial
     requires { (j ≤ s.now.setup.n) × (s.now.setup.n ≤ 8) }
-    ensures { result ≡ point_in (Shrinking j) s.now }
+    ensures { result ≡ trial_in (Shrinking j) s.now }
 {
     let n = s.setup.n;
     let k = &s.setup.coefficients;
     let points = &s.standing.points;
-    let mut out = [0.0; 8];
+    let mut out = nothing();
     for a in 0..n {
         let x = &s.setup.axes[a];
-        out[a] = clamp(
-            x,
-            moved_from(points[a], k.sigma, points[8 * j + a], points[a]),
-        );
+        put(&mut out, x, a, moved_from(points[a], k.sigma, points[8 * j + a], points[a]));
     }
     out
 }
 
 // Probe p of a round.
-#[tactic(auto, using(crate::proofs::Laws::Filling::point_more), unfolding(rules::specs::Simplex::up_to))]
-fn probed(s: &Search, p: usize) -> [f64; 8]
+#[tactic(auto, using(crate::proofs::Laws::Filling::made_more, rules::proofs::Laws::Stopped::stops_low), unfolding(rules::specs::Simplex::up_to, rules::specs::Trial::stops_to))]
+fn probed(s: &Search, p: usize) -> Trial
     requires { s.now.setup.n ≤ 8 }
-    ensures { result ≡ point_in (Probing p) s.now }
+    ensures { result ≡ trial_in (Probing p) s.now }
 {
     let n = s.setup.n;
-    let mut out = [0.0; 8];
+    let mut out = nothing();
     for a in 0..n {
         let x = &s.setup.axes[a];
-        out[a] = clamp(x, probe_step(x, s.best.point[a], p, a));
+        put(&mut out, x, a, probe_step(x, s.best.point[a], p, a));
     }
     out
 }
 
 // The point that the search would ask in this phase. One that has ended would ask none, and `Askable` rules it out.
-pub(super) fn trial(s: &Search, phase: Phase) -> [f64; 8]
+pub(super) fn trial(s: &Search, phase: Phase) -> Trial
     requires { Askable s.now phase }
-    ensures { result ≡ point_in phase s.now }
+    ensures { result ≡ trial_in phase s.now }
 {
     match phase {
         Phase::Building(i) => built(s, i),
@@ -136,6 +154,6 @@ pub(super) fn trial(s: &Search, phase: Phase) -> [f64; 8]
         Phase::Contracting(Side::Inside, _) => inside(s),
         Phase::Shrinking(j) => shrunk(s, j),
         Phase::Probing(p) => probed(s, p),
-        Phase::Ended(_) => [0.0; 8],
+        Phase::Ended(_) => nothing(),
     }
 }

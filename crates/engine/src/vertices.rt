@@ -17,10 +17,10 @@ pub(super) fn entrant(s: &Search, decision: Decision, v: Vertex) -> Vertex
     ensures { result ≡ entrant decision v s.now }
 {
     match decision {
-        Decision::Take(_, Newcomer::Reflected(cost)) => Vertex {
-            point: trial(s, Phase::Reflecting),
-            cost,
-        },
+        Decision::Take(_, Newcomer::Reflected(cost)) => {
+            let point = trial(s, Phase::Reflecting).point;
+            Vertex { point, cost }
+        }
         _ => v,
     }
 }

@@ -19,7 +19,7 @@ impl fmt::Display for Coordinates<'_> {
 
 // Writes a trial with its number and the cost that is told for it.
 pub(super) fn trial(rt: &impl Print, n: usize, asked: &Asked, cost: u64) -> io::Result<()> {
-    let point = Coordinates(&asked.point[..n.min(8)]);
+    let point = Coordinates(&asked.trial.point[..n.min(8)]);
     println!(rt; "{}{point} {cost}", asked.number)
 }
 

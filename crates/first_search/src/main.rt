@@ -42,7 +42,7 @@ fn run() -> Result<(u64, Vertex), Refusal> {
         let Ok(asked) = engine::ask(&search) else {
             break;
         };
-        let cost = cost_of(&asked.point);
+        let cost = cost_of(&asked.trial.point);
         engine::tell(&mut search, asked.number, cost)?;
     }
     let best = engine::best(&search)?;

@@ -1,6 +1,6 @@
 // The parts of a search that a script can write, as no call would (docs/REPLAY.md).
 use numerals::float_of;
-use rules::{Cause, Counts, Phase, Rule, Search, Side};
+use rules::{Axis, Cause, Counts, Phase, Rule, Search, Side};
 
 // One of the seven counts.
 #[derive(Clone, Copy)]
@@ -14,7 +14,7 @@ pub(super) enum Count {
     Open,
 }
 
-// A part with what is written there. Places count from 0 here.
+// A part with what is written there. Places and axes count from 0 here.
 #[derive(Clone, Copy)]
 pub(super) enum Part {
     Axes(usize),
@@ -26,6 +26,8 @@ pub(super) enum Part {
     Gathered(usize, u64),
     Best(u64),
     Rule(Rule),
+    Lo(usize, f64),
+    Hi(usize, f64),
 }
 
 // The rule that a number names, with the threshold that a word says.
@@ -76,6 +78,14 @@ fn place_of(which: u64) -> Option<usize> {
     }
 }
 
+// An axis by its number, from 1.
+fn axis_of(which: u64) -> Option<usize> {
+    match which {
+        1..=8 => Some((which - 1) as usize),
+        _ => None,
+    }
+}
+
 // The part that three words say.
 pub(super) fn part_of(part: u64, which: u64, value: u64) -> Option<Part> {
     match (part, which) {
@@ -88,6 +98,8 @@ pub(super) fn part_of(part: u64, which: u64, value: u64) -> Option<Part> {
         (6, _) => Some(Part::Gathered(place_of(which)?, value)),
         (7, 0) => Some(Part::Best(value)),
         (8, _) => Some(Part::Rule(rule_of(which, value)?)),
+        (9, _) => Some(Part::Lo(axis_of(which)?, float_of(value))),
+        (10, _) => Some(Part::Hi(axis_of(which)?, float_of(value))),
         _ => None,
     }
 }
@@ -112,6 +124,20 @@ fn put_cost(costs: &mut [u64; 9], place: usize, value: u64) {
     }
 }
 
+// Writes the lo of an axis.
+fn put_lo(axes: &mut [Axis; 8], axis: usize, value: f64) {
+    if let Some(record) = axes.get_mut(axis) {
+        record.lo = value;
+    }
+}
+
+// Writes the hi of an axis.
+fn put_hi(axes: &mut [Axis; 8], axis: usize, value: f64) {
+    if let Some(record) = axes.get_mut(axis) {
+        record.hi = value;
+    }
+}
+
 // Writes a part of a search.
 pub(super) fn put(search: &mut Search, part: Part) {
     match part {
@@ -124,5 +150,7 @@ pub(super) fn put(search: &mut Search, part: Part) {
         Part::Gathered(place, cost) => put_cost(&mut search.gathered.costs, place, cost),
         Part::Best(cost) => search.best.cost = cost,
         Part::Rule(rule) => search.setup.rule = rule,
+        Part::Lo(axis, lo) => put_lo(&mut search.setup.axes, axis, lo),
+        Part::Hi(axis, hi) => put_hi(&mut search.setup.axes, axis, hi),
     }
 }

@@ -19,14 +19,14 @@ impl Display for Words<'_> {
     }
 }
 
-// A point and its cost as words.
+// A point as words, and the number that goes with it: a reading's cost, a trial's stops.
 #[derive(Clone, Copy)]
-struct Reading<'a>(&'a [f64; 8], u64);
+struct PointWith<'a>(&'a [f64; 8], u64);
 
-impl Display for Reading<'_> {
+impl Display for PointWith<'_> {
     fn fmt<W: fmt::Write>(&self, f: &mut Formatter<W>) -> fmt::Result {
-        let Reading(point, cost) = *self;
-        write!(f, "{} {cost:016x}", Words(&point.map(bits_of)))
+        let PointWith(point, number) = *self;
+        write!(f, "{} {number:016x}", Words(&point.map(bits_of)))
     }
 }
 
@@ -52,15 +52,15 @@ impl Display for Answer {
                 write!(f, "o{}", Words(&[number_of(verdict), axis_of(verdict)]))
             }
             Answer::Asked(asked) => {
-                let Asked { number, point } = asked.unwrap_or_default();
+                let Asked { number, trial } = asked.unwrap_or_default();
                 let words = Words(&[number_of(asked), number]);
-                write!(f, "a{words}{}", Words(&point.map(bits_of)))
+                write!(f, "a{words}{}", PointWith(&trial.point, trial.stops))
             }
             Answer::Told(verdict) => write!(f, "t{}", Words(&[number_of(verdict)])),
             Answer::Best(best) => {
                 let Vertex { point, cost } = best.unwrap_or_default();
                 let words = Words(&[number_of(best)]);
-                write!(f, "b{words}{}", Reading(&point, cost))
+                write!(f, "b{words}{}", PointWith(&point, cost))
             }
             Answer::State(search) => state(f, search),
             Answer::Put => write!(f, "p"),
@@ -135,7 +135,7 @@ fn progress<W: fmt::Write>(f: &mut Formatter<W>, search: &Search) -> fmt::Result
 fn places<W: fmt::Write>(f: &mut Formatter<W>, simplex: &Simplex) -> fmt::Result {
     let (points, _) = simplex.points.as_chunks();
     for (point, cost) in points.iter().zip(&simplex.costs) {
-        write!(f, "{}", Reading(point, *cost))?;
+        write!(f, "{}", PointWith(point, *cost))?;
     }
     Ok(())
 }
@@ -145,7 +145,7 @@ fn state<W: fmt::Write>(f: &mut Formatter<W>, search: &Search) -> fmt::Result {
     write!(f, "s")?;
     setup(f, &search.setup)?;
     progress(f, search)?;
-    let best = Reading(&search.best.point, search.best.cost);
+    let best = PointWith(&search.best.point, search.best.cost);
     write!(f, "{best}{}", Words(&search.center.map(bits_of)))?;
     places(f, &search.standing)?;
     places(f, &search.gathered)

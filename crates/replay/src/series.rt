@@ -72,7 +72,7 @@ pub(super) fn run(n: usize, readings: u64) -> Result<Total, Refusal> {
                 engine::ask(&search)?
             }
         };
-        let cost = cost_of(&asked.point, &around);
+        let cost = cost_of(&asked.trial.point, &around);
         engine::tell(&mut search, asked.number, cost)?;
         total.sum = total.sum.wrapping_add(cost);
     }

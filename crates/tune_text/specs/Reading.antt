@@ -86,7 +86,7 @@ with_axis k a q = record { n = q.n; budget = q.budget; spread = q.spread; axes =
 abbrev pub turn_told : Verdict → Progress → Asked → Search → ℕ → Turned
 turn_told (Ok _) p a s cost = record {
   progress = record { stage = Costs; request = p.request; search = s };
-  line = reading_line a.number p.search.setup.n a.point cost;
+  line = reading_line a.number p.search.setup.n a.trial.point cost;
 }
 turn_told (Err r) p a s cost = last_turn p (refused_line (number_of r))
 

@@ -1,5 +1,6 @@
 -- Laws on arrays that a loop fills place by place. Assumes nothing.
-use mathlib.Core.Path.{◌≡◌, refl}
+use mathlib.Core.Path.{◌≡◌, refl, ap}
+use mathlib.Core.Bool.{cond}
 use mathlib.Core.List.{List}
 use Prim.Native.Nat.{ℕ, suc, ◌+◌, ◌-◌, ◌≤◌, ◌<◌}
 use native.Mathlib.Numerals.{add-one}
@@ -9,7 +10,9 @@ use lib.Seq.{set_at, append_snoc}
 use lib.Ieee.{Float, nan}
 use Rattle.rules.specs.Binary64.{0ᶠ, ◌⊕◌}
 use Rattle.rules.specs.Simplex.{up_to, point}
-use Rattle.rules.specs.Trial.{entry, sum_to}
+use Rattle.rules.specs.Trial.{clamped, stopped, stops_to, made, entry, sum_to}
+use Rattle.rules.specs.declared.Setup.{Setup}
+use Rattle.rules.specs.declared.Trial.{Trial}
 use Rattle.rules.proofs.Laws.Lists.{length_up_to, get_or_point}
 
 -- the next coordinate is stored over the first that is still 0
@@ -18,6 +21,16 @@ unfolding up_to
 point_more f j xs x h p e =
     let m : 8 - j ≡ suc (8 - suc j) = omega arith in
     rw (p, e, add-one, m, set_at (up_to f j) 0ᶠ (replicate (8 - suc j) 0ᶠ) (f j) j (length_up_to f j), append_snoc)
+
+-- the next axis is put to the trial of those before it
+pub made_more : (t : Setup) (f : ℕ → Float) (j : ℕ) (x : Trial) (v : Float) → j < 8 → x ≡ made t j f → v ≡ f j
+    → record { point = set x.point j (clamped t j v); stops = x.stops + cond (stopped t j v) 1 0 } ≡ made t (j + 1) f
+unfolding stops_to
+made_more t f j x v h p e =
+    let points : set x.point j (clamped t j v) ≡ point (j + 1) (λ a. clamped t a (f a)) =
+    point_more (λ a. clamped t a (f a)) j x.point (clamped t j v) h (ap (λ (y : Trial). y.point) p) (ap (λ (u : Float). clamped t j u) e) in
+    let counts : x.stops + cond (stopped t j v) 1 0 ≡ stops_to t f (j + 1) = rw (p, e, add-one) refl in
+    λ i. record { point = points i; stops = counts i }
 
 -- where sum has the sums of places 1 to i, out with place i + 1 added to them has those of one place more
 pub sum_more : (ps sum out : List Float) (i : ℕ) → out ≡ point 8 (λ k. get_or sum k nan ⊕ entry ps k i) → 1 ≤ i

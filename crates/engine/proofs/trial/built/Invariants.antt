@@ -1,9 +1,8 @@
--- The loop of `engine::trial::built` keeps that out has the first a coordinates of the trial.
+-- The loop of `engine::trial::built` keeps that out is the trial of the first a axes.
 use Rattle.std.proofs.Common.{◌≡◌}
-use Rattle.rules.specs.Simplex.{point}
-use Rattle.rules.specs.Trial.{asked}
+use Rattle.rules.specs.Trial.{target, made}
 use Rattle.rules.specs.declared.Phase.TheVariants.{Building}
 use Rattle.engine.proofs.trial.built.Given as goal
 
 abbrev pub invariant-loop-a : goal.invariant-loop-a
-invariant-loop-a l = l.out ≡ point l.a (asked l.s (Building l.i))
+invariant-loop-a l = l.out ≡ made l.s.setup l.a (target l.s (Building l.i))

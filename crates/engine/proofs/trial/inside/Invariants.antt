@@ -1,8 +1,7 @@
--- The loop of `engine::trial::inside` keeps that out has the first a coordinates of the trial.
+-- The loop of `engine::trial::inside` keeps that out is the trial of the first a axes.
 use Rattle.std.proofs.Common.{◌≡◌}
-use Rattle.rules.specs.Simplex.{point}
-use Rattle.rules.specs.Trial.{clamped, toward_worst}
+use Rattle.rules.specs.Trial.{made, toward_worst}
 use Rattle.engine.proofs.trial.inside.Given as goal
 
 abbrev pub invariant-loop-a : goal.invariant-loop-a
-invariant-loop-a l = l.out ≡ point l.a (λ b. clamped l.s.setup b (toward_worst l.s.setup l.s.standing.points b))
+invariant-loop-a l = l.out ≡ made l.s.setup l.a (toward_worst l.s.setup l.s.standing.points)
