@@ -1,27 +1,18 @@
 // The trial of each phase: one loop over the axes for each of them, so that no axis asks for the phase again, and the centroid once for all axes.
-// Each coordinate is clamped to its axis.
-ghost use Rattle.std.specs.Prelude.{◌≡◌, cond, replicate, ◌+◌, ◌≤◌, ◌<◌, set};
-ghost use Rattle.rules.specs.Binary64.{0ᶠ, clamp, clamp_changes};
+// Each coordinate is clamped to its axis, and counted where that changes it. The loops write the trial in place, since one given back by each
+// would be copied.
+ghost use Rattle.std.specs.Prelude.{◌≡◌, cond, ◌+◌, ◌≤◌, ◌<◌, set};
+ghost use Rattle.rules.specs.Binary64.{clamp, clamp_changes};
 ghost use Rattle.rules.specs.Trial.{centroid, toward_reflected, toward_worst, made, trial_in};
 ghost use Rattle.rules.specs.declared.Phase.TheVariants.{Building, Reflecting, Shrinking, Probing};
-ghost use Rattle.engine.specs.Ready.{Askable};
+ghost use Rattle.engine.specs.Ready.{Askable, no_trial};
 
 use super::centroid::centroid;
 use super::float::{clamp, clamp_changes, moved_from};
 use super::point::{build_step, probe_step};
 use rules::{Axis, Phase, Search, Side, Trial};
 
-// A trial before its first axis.
-fn nothing() -> Trial
-    ensures { result ≡ record { point = replicate 8 0ᶠ; stops = 0 } }
-{
-    Trial {
-        point: [0.0; 8],
-        stops: 0,
-    }
-}
-
-// A trial with the number v on axis a: within the limits, and a stop where that changes it.
+// Puts the number v on axis a, the next of the trial: within the limits, and a stop where that changes it.
 fn put(trial: &mut Trial, x: &Axis, a: usize, v: f64)
     requires { (a < 8) × (trial.old.stops ≤ a) }
     ensures { trial.new ≡ record { point = set trial.old.point a (clamp x.now.lo x.now.hi v); stops = trial.old.stops + cond (clamp_changes x.now.lo x.now.hi v) 1 0 } }
@@ -33,36 +24,33 @@ fn put(trial: &mut Trial, x: &Axis, a: usize, v: f64)
 }
 
 // Trial i of a build.
-#[tactic(auto, using(crate::proofs::Laws::Filling::made_more, rules::proofs::Laws::Stopped::stops_low), unfolding(rules::specs::Simplex::up_to, rules::specs::Trial::stops_to))]
-fn built(s: &Search, i: usize) -> Trial
-    requires { s.now.setup.n ≤ 8 }
-    ensures { result ≡ trial_in (Building i) s.now }
+#[tactic(auto, using(crate::proofs::Laws::Filling::trials), unfolding(rules::specs::Simplex::up_to, rules::specs::Trial::stops_to))]
+fn built(s: &Search, i: usize, out: &mut Trial)
+    requires { (s.now.setup.n ≤ 8) × (out.old ≡ no_trial) }
+    ensures { out.new ≡ trial_in (Building i) s.now }
 {
     let n = s.setup.n;
-    let mut out = nothing();
     for a in 0..n {
         let x = &s.setup.axes[a];
-        put(&mut out, x, a, build_step(x, s.center[a], i, a));
+        put(out, x, a, build_step(x, s.center[a], i, a));
     }
-    out
 }
 
 // The reflected point.
-#[tactic(auto, using(crate::proofs::Laws::Filling::made_more, rules::proofs::Laws::Stopped::stops_low), unfolding(rules::specs::Simplex::up_to, rules::specs::Trial::stops_to))]
-fn reflected(s: &Search) -> Trial
-    requires { (1 ≤ s.now.setup.n) × (s.now.setup.n ≤ 8) }
-    ensures { result ≡ trial_in Reflecting s.now }
+#[tactic(auto, using(crate::proofs::Laws::Filling::trials), unfolding(rules::specs::Simplex::up_to, rules::specs::Trial::stops_to))]
+fn reflected(s: &Search, out: &mut Trial)
+    requires { (1 ≤ s.now.setup.n) × (s.now.setup.n ≤ 8) × (out.old ≡ no_trial) }
+    ensures { out.new ≡ trial_in Reflecting s.now }
 {
     let n = s.setup.n;
     let k = &s.setup.coefficients;
     let points = &s.standing.points;
     let c = centroid(points, n);
-    let mut out = nothing();
     for a in 0..n {
         let x = &s.setup.axes[a];
-        put(&mut out, x, a, moved_from(c[a], k.alpha, c[a], points[8 * n + a]));
+        let v = moved_from(c[a], k.alpha, c[a], points[8 * n + a]);
+        put(out, x, a, v);
     }
-    out
 }
 
 // k times as far from c as r, towards it, on axis a, c being the centroid's coordinate. Here r is clamped.
@@ -76,84 +64,83 @@ fn toward_reflected(s: &Search, k: f64, c: f64, a: usize) -> f64
     moved_from(c, k, r, c)
 }
 
-// The point k times as far from c as r: the expanded one and the outside one.
-#[tactic(auto, using(crate::proofs::Laws::Filling::made_more, rules::proofs::Laws::Stopped::stops_low), unfolding(rules::specs::Simplex::up_to, rules::specs::Trial::stops_to))]
-fn along(s: &Search, k: f64) -> Trial
-    requires { (1 ≤ s.now.setup.n) × (s.now.setup.n ≤ 8) }
-    ensures { result ≡ made s.now.setup s.now.setup.n (toward_reflected s.now.setup s.now.standing.points k) }
+// The point k times as far from c as r: the expanded one and the outside one. The stops of r are not theirs.
+#[tactic(auto, using(crate::proofs::Laws::Filling::trials), unfolding(rules::specs::Simplex::up_to, rules::specs::Trial::stops_to))]
+fn along(s: &Search, k: f64, out: &mut Trial)
+    requires { (1 ≤ s.now.setup.n) × (s.now.setup.n ≤ 8) × (out.old ≡ no_trial) }
+    ensures { out.new ≡ made s.now.setup s.now.setup.n (toward_reflected s.now.setup s.now.standing.points k) }
 {
     let n = s.setup.n;
     let c = centroid(&s.standing.points, n);
-    let mut out = nothing();
     for a in 0..n {
-        put(&mut out, &s.setup.axes[a], a, toward_reflected(s, k, c[a], a));
+        put(out, &s.setup.axes[a], a, toward_reflected(s, k, c[a], a));
     }
-    out
 }
 
 // The inside point.
-#[tactic(auto, using(crate::proofs::Laws::Filling::made_more, rules::proofs::Laws::Stopped::stops_low), unfolding(rules::specs::Simplex::up_to, rules::specs::Trial::stops_to))]
-fn inside(s: &Search) -> Trial
-    requires { (1 ≤ s.now.setup.n) × (s.now.setup.n ≤ 8) }
-    ensures { result ≡ made s.now.setup s.now.setup.n (toward_worst s.now.setup s.now.standing.points) }
+#[tactic(auto, using(crate::proofs::Laws::Filling::trials), unfolding(rules::specs::Simplex::up_to, rules::specs::Trial::stops_to))]
+fn inside(s: &Search, out: &mut Trial)
+    requires { (1 ≤ s.now.setup.n) × (s.now.setup.n ≤ 8) × (out.old ≡ no_trial) }
+    ensures { out.new ≡ made s.now.setup s.now.setup.n (toward_worst s.now.setup s.now.standing.points) }
 {
     let n = s.setup.n;
     let k = &s.setup.coefficients;
     let points = &s.standing.points;
     let c = centroid(points, n);
-    let mut out = nothing();
     for a in 0..n {
         let x = &s.setup.axes[a];
-        put(&mut out, x, a, moved_from(c[a], k.beta, points[8 * n + a], c[a]));
+        let v = moved_from(c[a], k.beta, points[8 * n + a], c[a]);
+        put(out, x, a, v);
     }
-    out
 }
 
 // The point that a shrink asks for place j, counted from 0.
-#[tactic(auto, using(crate::proofs::Laws::Filling::made_more, rules::proofs::Laws::Stopped::stops_low), unfolding(rules::specs::Simplex::up_to, rules::specs::Trial::stops_to))]
-fn shrunk(s: &Search, j: usize) -> Trial
-    requires { (j ≤ s.now.setup.n) × (s.now.setup.n ≤ 8) }
-    ensures { result ≡ trial_in (Shrinking j) s.now }
+#[tactic(auto, using(crate::proofs::Laws::Filling::trials), unfolding(rules::specs::Simplex::up_to, rules::specs::Trial::stops_to))]
+fn shrunk(s: &Search, j: usize, out: &mut Trial)
+    requires { (j ≤ s.now.setup.n) × (s.now.setup.n ≤ 8) × (out.old ≡ no_trial) }
+    ensures { out.new ≡ trial_in (Shrinking j) s.now }
 {
     let n = s.setup.n;
     let k = &s.setup.coefficients;
     let points = &s.standing.points;
-    let mut out = nothing();
     for a in 0..n {
         let x = &s.setup.axes[a];
-        put(&mut out, x, a, moved_from(points[a], k.sigma, points[8 * j + a], points[a]));
+        let v = moved_from(points[a], k.sigma, points[8 * j + a], points[a]);
+        put(out, x, a, v);
     }
-    out
 }
 
 // Probe p of a round.
-#[tactic(auto, using(crate::proofs::Laws::Filling::made_more, rules::proofs::Laws::Stopped::stops_low), unfolding(rules::specs::Simplex::up_to, rules::specs::Trial::stops_to))]
-fn probed(s: &Search, p: usize) -> Trial
-    requires { s.now.setup.n ≤ 8 }
-    ensures { result ≡ trial_in (Probing p) s.now }
+#[tactic(auto, using(crate::proofs::Laws::Filling::trials), unfolding(rules::specs::Simplex::up_to, rules::specs::Trial::stops_to))]
+fn probed(s: &Search, p: usize, out: &mut Trial)
+    requires { (s.now.setup.n ≤ 8) × (out.old ≡ no_trial) }
+    ensures { out.new ≡ trial_in (Probing p) s.now }
 {
     let n = s.setup.n;
-    let mut out = nothing();
     for a in 0..n {
         let x = &s.setup.axes[a];
-        put(&mut out, x, a, probe_step(x, s.best.point[a], p, a));
+        put(out, x, a, probe_step(x, s.best.point[a], p, a));
     }
-    out
 }
 
-// The point that the search would ask in this phase. One that has ended would ask none, and `Askable` rules it out.
+// The trial that the search would ask in this phase. One that has ended would ask none, and `Askable` rules it out.
 pub(super) fn trial(s: &Search, phase: Phase) -> Trial
     requires { Askable s.now phase }
     ensures { result ≡ trial_in phase s.now }
 {
+    let mut out = Trial {
+        point: [0.0; 8],
+        stops: 0,
+    };
     match phase {
-        Phase::Building(i) => built(s, i),
-        Phase::Reflecting => reflected(s),
-        Phase::Expanding(_) => along(s, s.setup.coefficients.chi),
-        Phase::Contracting(Side::Outside, _) => along(s, s.setup.coefficients.beta),
-        Phase::Contracting(Side::Inside, _) => inside(s),
-        Phase::Shrinking(j) => shrunk(s, j),
-        Phase::Probing(p) => probed(s, p),
-        Phase::Ended(_) => nothing(),
+        Phase::Building(i) => built(s, i, &mut out),
+        Phase::Reflecting => reflected(s, &mut out),
+        Phase::Expanding(_) => along(s, s.setup.coefficients.chi, &mut out),
+        Phase::Contracting(Side::Outside, _) => along(s, s.setup.coefficients.beta, &mut out),
+        Phase::Contracting(Side::Inside, _) => inside(s, &mut out),
+        Phase::Shrinking(j) => shrunk(s, j, &mut out),
+        Phase::Probing(p) => probed(s, p, &mut out),
+        Phase::Ended(_) => {}
     }
+    out
 }

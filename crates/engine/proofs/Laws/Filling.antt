@@ -14,6 +14,7 @@ use Rattle.rules.specs.Trial.{clamped, stopped, stops_to, made, entry, sum_to}
 use Rattle.rules.specs.declared.Setup.{Setup}
 use Rattle.rules.specs.declared.Trial.{Trial}
 use Rattle.rules.proofs.Laws.Lists.{length_up_to, get_or_point}
+use Rattle.rules.proofs.Laws.Stopped.{stops_low}
 
 -- the next coordinate is stored over the first that is still 0
 pub point_more : (f : ℕ → Float) (j : ℕ) (xs : List Float) (x : Float) → j < 8 → xs ≡ point j f → x ≡ f j → set xs j x ≡ point (j + 1) f
@@ -40,3 +41,6 @@ sum_more ps sum out i p low e a l =
     let next : i + 1 - 1 ≡ suc (i - 1) = omega arith in
     let same : suc (i - 1) ≡ i = omega arith in
     rw (p, get_or_point 8 (λ k. get_or sum k nan ⊕ entry ps k i) a l, next, e a l, same) refl
+
+-- the laws that the loop of a trial takes
+pub ruleset trials = (made_more, stops_low)
