@@ -4,7 +4,7 @@ use mathlib.Core.Path.{◌≡◌, refl}
 use lib.Count.{count_trailing_zeros}
 use lib.Ieee.{of_bits, of_fields, to_bits, odd, neg, add, sub, mul, div, sum, round, size, span, climb, units, le, lt, eq, of_int}
 use Rattle.rules.specs.Simplex.{up_to, flat, store, unpack, insert}
-use Rattle.rules.specs.Trial.{sum_to, centroid, trial}
+use Rattle.rules.specs.Trial.{sum_to, centroid, stops_to, trial}
 use Rattle.rules.specs.Stop.{total, spread_met, apart, movement, norm, all_within, size_met, met}
 use Rattle.rules.specs.Decide.{decided}
 use Rattle.rules.specs.Accept.{accept}
@@ -23,7 +23,7 @@ floats = tt
 
 -- to unfold this is to run the rules
 unfoldable pub rules : Unit {0}
-unfolding floats fresh up_to flat store unpack insert sum_to centroid trial total spread_met apart movement norm all_within size_met met decided accept run
+unfolding floats fresh up_to flat store unpack insert sum_to centroid stops_to trial total spread_met apart movement norm all_within size_met met decided accept run
 rules = tt
 
 -- to unfold this is to run the calls

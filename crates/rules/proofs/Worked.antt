@@ -1,19 +1,20 @@
--- The worked searches trial by trial, the stopping rules at their edges, the opening's refusals edge by edge, what a search carries, and refusal
--- 12 cause by cause, by computation. Assumes nothing.
+-- The worked searches trial by trial, the stopping rules at their edges, the opening's refusals edge by edge, what a search carries, refusal 12
+-- cause by cause, and a trial's stops, by computation. Assumes nothing.
 use mathlib.Core.Path.{◌≡◌, refl}
 use Rattle.rules.specs.Simplex.{flat, store}
 use Rattle.rules.specs.Opening.{axes_checks, open_verdict, closed}
 use Rattle.rules.specs.Calls.{in_order, all_costs, sound, ask_verdict, tell_verdict, best_verdict, showing}
 use Rattle.rules.specs.Tally.{pieces, count_of, probes_in, open_in}
-use Rattle.rules.specs.Walks.{walk, walks_given, walks_stated}
+use Rattle.rules.specs.Walks.{walk_by, walks_given, walks_stated}
 use Rattle.rules.specs.Thresholds.{thresholds_given, thresholds_stated}
 use Rattle.rules.specs.Edges.{edges_given, edges_stated, opened_given, opened_stated, clamps_given, clamps_stated}
 use Rattle.rules.specs.Parts.{parts_given, parts_stated, tallies_given, tallies_stated, runs_given, runs_stated, closed_stated}
 use Rattle.rules.specs.Causes.{causes_given, causes_stated, strays_given, strays_stated}
+use Rattle.rules.specs.Stops.{stops_given, stops_stated, limited_given, limited_stated}
 use Rattle.rules.proofs.Examples.{floats, rules}
 
 pub walks : walks_given ≡ walks_stated
-unfolding walks_given walks_stated walk rules
+unfolding walks_given walks_stated walk_by rules
 walks = refl
 
 pub thresholds : thresholds_given ≡ thresholds_stated
@@ -55,3 +56,11 @@ causes = refl
 pub strays : strays_given ≡ strays_stated
 unfolding strays_given strays_stated rules in_order all_costs sound best_verdict showing
 strays = refl
+
+pub stops : stops_given ≡ stops_stated
+unfolding stops_given stops_stated walk_by rules
+stops = refl
+
+pub limited : limited_given ≡ limited_stated
+unfolding limited_given limited_stated rules
+limited = refl

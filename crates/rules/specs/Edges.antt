@@ -1,9 +1,9 @@
 -- The opening's refusals, edge by edge, and the clamp: each number at the edge that the table gives it and at the next float or whole number, by
 -- bits and not by the names that the definitions use; and openings that are bad in two ways.
-use Rattle.std.specs.Prelude.{List, [], ◌∷◌, ◌++◌, ℕ, replicate, Some, None, Ok, Err}
+use Rattle.std.specs.Prelude.{cond, List, [], ◌∷◌, ◌++◌, ℕ, replicate, Some, None, Ok, Err}
 use Rattle.std.specs.Float.{binary64, nan}
 use Rattle.std.specs.Float.Ieee.{to_bits}
-use Rattle.rules.specs.Binary64.{clamp}
+use Rattle.rules.specs.Binary64.{clamp, clamp_changes, clamp_changes}
 use Rattle.rules.specs.Numbers.{usual}
 use Rattle.rules.specs.Refusals.{Verdict}
 use Rattle.rules.specs.Opening.{open_verdict}
@@ -202,12 +202,12 @@ opened_given =
 unfoldable pub opened_stated : List Verdict
 opened_stated = replicate 13 (Ok tt)
 
--- the clamp of v to lo and hi, all by their bits
-abbrev pub clamp_at : ℕ → ℕ → ℕ → ℕ
-clamp_at lo hi v = to_bits binary64 (clamp (bits lo) (bits hi) (bits v))
+-- the clamp of v to lo and hi, all by their bits, and 1 where it changes v
+abbrev pub clamp_at : ℕ → ℕ → ℕ → List ℕ
+clamp_at lo hi v = to_bits binary64 (clamp (bits lo) (bits hi) (bits v)) ∷ cond (clamp_changes (bits lo) (bits hi) (bits v)) 1 0 ∷ []
 
 -- clamps by the rules
-unfoldable pub clamps_given : List ℕ
+unfoldable pub clamps_given : List (List ℕ)
 clamps_given =
     -- between 1 and 2: 1 and 2 themselves, the floats past each, and a NaN, which is lo
     clamp_at 0x3ff0_0000_0000_0000 0x4000_0000_0000_0000 0x3ff0_0000_0000_0000
@@ -218,11 +218,20 @@ clamps_given =
     -- a zero keeps its sign at either limit, though −0.0 equals 0.0
     ∷ clamp_at 0 0x3ff0_0000_0000_0000 0x8000_0000_0000_0000 ∷ clamp_at 0x8000_0000_0000_0000 0x3ff0_0000_0000_0000 0
     ∷ clamp_at 0xc020_0000_0000_0000 0 0x8000_0000_0000_0000 ∷ clamp_at 0xc020_0000_0000_0000 0x8000_0000_0000_0000 0
+    -- 2 and 1, the wrong way round: lo comes first, a v on lo is above hi; and a NaN at either end, which no v meets
+    ∷ clamp_at 0x4000_0000_0000_0000 0x3ff0_0000_0000_0000 0x3ff8_0000_0000_0000
+    ∷ clamp_at 0x4000_0000_0000_0000 0x3ff0_0000_0000_0000 0x4000_0000_0000_0000
+    ∷ clamp_at 0x7ff8_0000_0000_0000 0x4000_0000_0000_0000 0x3ff0_0000_0000_0000
+    ∷ clamp_at 0x3ff0_0000_0000_0000 0x7ff8_0000_0000_0000 0x3ff0_0000_0000_0000
+    ∷ clamp_at 0x7ff8_0000_0000_0000 0x7ff8_0000_0000_0000 0x7ff8_0000_0000_0000
     ∷ []
 
 -- what document 01 says of each, in this order
-unfoldable pub clamps_stated : List ℕ
+unfoldable pub clamps_stated : List (List ℕ)
 clamps_stated =
-    0x3ff0_0000_0000_0000 ∷ 0x4000_0000_0000_0000 ∷ 0x3ff0_0000_0000_0000 ∷ 0x4000_0000_0000_0000 ∷ 0x3ff0_0000_0000_0000
-    ∷ 0x8000_0000_0000_0000 ∷ 0 ∷ 0x8000_0000_0000_0000 ∷ 0
+    (0x3ff0_0000_0000_0000 ∷ 0 ∷ []) ∷ (0x4000_0000_0000_0000 ∷ 0 ∷ []) ∷ (0x3ff0_0000_0000_0000 ∷ 1 ∷ []) ∷ (0x4000_0000_0000_0000 ∷ 1 ∷ [])
+    ∷ (0x3ff0_0000_0000_0000 ∷ 1 ∷ [])
+    ∷ (0x8000_0000_0000_0000 ∷ 0 ∷ []) ∷ (0 ∷ 0 ∷ []) ∷ (0x8000_0000_0000_0000 ∷ 0 ∷ []) ∷ (0 ∷ 0 ∷ [])
+    ∷ (0x4000_0000_0000_0000 ∷ 1 ∷ []) ∷ (0x3ff0_0000_0000_0000 ∷ 1 ∷ []) ∷ (0x7ff8_0000_0000_0000 ∷ 1 ∷ []) ∷ (0x7ff8_0000_0000_0000 ∷ 1 ∷ [])
+    ∷ (0x7ff8_0000_0000_0000 ∷ 1 ∷ [])
     ∷ []

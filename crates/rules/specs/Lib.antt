@@ -24,3 +24,4 @@ pub mod Thresholds
 pub mod Edges
 pub mod Parts
 pub mod Causes
+pub mod Stops

@@ -35,10 +35,14 @@ begun o = fresh o.n o.axes o.rule o.coefficients o.budget
 abbrev pub asked_bits : Search → List ℕ
 asked_bits s = cond (is_ended s.phase) [] (map (to_bits binary64) (take s.setup.n (trial s).point))
 
--- what a search asks for before each of these costs, and after the last
-unfoldable pub walk : Search → List ℕ → List (List ℕ)
-walk s [] = asked_bits s ∷ []
-walk s (c ∷ cs) = asked_bits s ∷ walk (accept s c) cs
+-- what a search shows before each of these costs, and after the last
+unfoldable pub walk_by : (Search → List ℕ) → Search → List ℕ → List (List ℕ)
+walk_by shows s [] = shows s ∷ []
+walk_by shows s (c ∷ cs) = shows s ∷ walk_by shows (accept s c) cs
+
+-- what it asks for
+abbrev pub walk : Search → List ℕ → List (List ℕ)
+walk s cs = walk_by asked_bits s cs
 
 -- α 0.7, χ 1.9, β 0.3, σ 0.6
 abbrev pub odd_coefficients : Coefficients

@@ -159,7 +159,7 @@ module _ (p : Progress) (c : Carried p) where
   pub only_too_high : is_ended p.search.phase ≡ false
       → (a : Asked) × (asking p.search ≡ Ok a) × ((cost : ℕ) → (telling p.search a.number cost).verdict ≡ check (leb cost max_cost) CostTooHigh (Ok tt))
   only_too_high live =
-      let a : Asked = record { number = length costs + 1; point = trial (run begun told_so_far) } in
+      let a : Asked = record { number = length costs + 1; trial = trial (run begun told_so_far) } in
       let due : length costs + 1 ≡ p.search.readings + 1 = ap (λ (m : ℕ). m + 1) (sym claimed.readings) in
       (a, claimed.asks live, λ cost. rw due (tell_next p.search sound live cost))
 

@@ -59,7 +59,8 @@ impl Progress {
         ensures { turn_or_refused self.new result ≡ cost_told self.old cost }
     {
         let n = self.search.setup.n;
-        let Asked { number, point } = engine::ask(&self.search)?;
+        let Asked { number, trial } = engine::ask(&self.search)?;
+        let point = trial.point;
         engine::tell(&mut self.search, number, cost)?;
         Ok(lines::reading(number, n, &Vertex { point, cost }))
     }
