@@ -1,27 +1,28 @@
 //! The first build and the build of a restart.
 
 use crate::search::{Phase, Search};
-use crate::types::{Point, Vertex};
+use crate::types::{Clamped, Vertex};
 
 impl Search {
     /// The trial of a build that has so many vertices: its center, then that point with axis i changed.
-    pub(crate) fn build_trial(&self, vertices: usize) -> Point {
-        let mut point = self.clamped(&self.center);
-        if vertices > 0 {
-            let i = vertices - 1;
-            point[i] = self.stepped(i);
-        }
-        point
+    pub(crate) fn build_trial(&self, vertices: usize) -> Clamped {
+        self.clamped(|i| {
+            if i + 1 == vertices {
+                self.stepped(i)
+            } else {
+                self.center[i]
+            }
+        })
     }
 
-    /// u = start + step if u ≤ hi, else the clamp of start − step, around the center.
+    /// u = start + step if u ≤ hi, else start − step, around the center. The turn is no stop; the clamp that follows may be one.
     fn stepped(&self, i: usize) -> f64 {
         let axis = &self.axes[i];
         let u = self.center[i] + axis.step;
         if u <= axis.hi {
-            axis.clamp(u)
+            u
         } else {
-            axis.clamp(self.center[i] - axis.step)
+            self.center[i] - axis.step
         }
     }
 

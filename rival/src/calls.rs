@@ -10,7 +10,8 @@ impl Search {
         self.refuse_ended()?;
         Ok(Trial {
             number: self.readings + 1,
-            point: self.trial,
+            point: self.trial.point,
+            stops: self.trial.stops,
         })
     }
 
@@ -55,7 +56,7 @@ impl Search {
     /// An accepted cost becomes a reading and moves the rules on.
     fn accept(&mut self, cost: u64) {
         let reading = Vertex {
-            point: self.trial,
+            point: self.trial.point,
             cost,
         };
         let lower = cost < self.best.cost;

@@ -1,7 +1,7 @@
 //! The points that the rules ask, every one clamped axis by axis.
 
 use crate::search::{Phase, Search, Side};
-use crate::types::{Point, ORIGIN};
+use crate::types::{Clamped, Point, MAX_AXES, ORIGIN};
 
 impl Search {
     /// Works out the point that the rules ask next.
@@ -13,7 +13,7 @@ impl Search {
     }
 
     /// The point that the phase asks; an ended search asks none.
-    fn next_trial(&self) -> Point {
+    fn next_trial(&self) -> Clamped {
         let k = &self.coefficients;
         let c = &self.centroid;
         let r = &self.reflected.point;
@@ -25,7 +25,7 @@ impl Search {
             Phase::Contracting(Side::Inside) => self.along(c, k.beta, self.worst(), c),
             Phase::Shrinking => self.shrunk_trial(self.vertices),
             Phase::Probing(told) => self.probe_trial(told),
-            Phase::Ended(_) => ORIGIN,
+            Phase::Ended(_) => Clamped::ORIGIN,
         }
     }
 
@@ -34,32 +34,31 @@ impl Search {
         self.standing.point(self.n)
     }
 
-    /// The clamped point, zeros past its n coordinates.
-    pub(crate) fn clamped(&self, point: &Point) -> Point {
-        let mut clamped = ORIGIN;
-        for i in 0..self.n {
-            clamped[i] = self.axes[i].clamp(point[i]);
+    /// A point's coordinates clamped, axis by axis, and its stops counted; zeros past its n coordinates.
+    pub(crate) fn clamped(&self, coordinate: impl Fn(usize) -> f64) -> Clamped {
+        let mut clamped = Clamped::ORIGIN;
+        for (i, axis) in self.axes[..self.n].iter().enumerate() {
+            let (x, stop) = axis.clamp(coordinate(i));
+            clamped.point[i] = x;
+            clamped.stops += stop;
         }
         clamped
     }
 
     /// r = c + α·(c − w), from the centroid that is carried.
-    pub(crate) fn reflection(&self) -> Point {
+    pub(crate) fn reflection(&self) -> Clamped {
         let c = &self.centroid;
         self.along(c, self.coefficients.alpha, c, self.worst())
     }
 
     /// base + factor·(tip − tail), clamped.
-    fn along(&self, base: &[f64], factor: f64, tip: &[f64], tail: &[f64]) -> Point {
-        let mut point = ORIGIN;
-        for i in 0..self.n {
-            point[i] = self.axes[i].clamp(base[i] + factor * (tip[i] - tail[i]));
-        }
-        point
+    fn along(&self, base: &[f64], factor: f64, tip: &[f64], tail: &[f64]) -> Clamped {
+        let [base, tip, tail] = [base, tip, tail].map(|point| &point[..MAX_AXES]);
+        self.clamped(|i| base[i] + factor * (tip[i] - tail[i]))
     }
 
     /// x1 + σ·(xi − x1), clamped, for the vertex at an index.
-    pub(crate) fn shrunk_trial(&self, index: usize) -> Point {
+    pub(crate) fn shrunk_trial(&self, index: usize) -> Clamped {
         let x1 = self.standing.point(0);
         self.along(x1, self.coefficients.sigma, self.standing.point(index), x1)
     }

@@ -41,8 +41,8 @@ impl Search {
         for (i, axis) in read.iter().enumerate() {
             self.axes[i] = *axis;
             self.center[i] = axis.start;
-            self.trial[i] = axis.clamp(axis.start);
         }
+        self.set_trial();
     }
 }
 

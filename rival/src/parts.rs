@@ -3,7 +3,7 @@
 use crate::search::{Cause, Phase, Search, Side};
 use crate::simplex::Simplex;
 use crate::stopping::add_differences;
-use crate::types::Rule;
+use crate::types::{shown_bits, Rule};
 
 // An axis count and a number of vertices or probes may be any number of 64 bits.
 const _: () = assert!(usize::BITS == 64);
@@ -11,7 +11,7 @@ const _: () = assert!(usize::BITS == 64);
 /// The words of a state line.
 const WORDS: usize = 229;
 
-/// A part that can be written. Counts and places go by their index.
+/// A part that can be written. Counts, places and axes go by their index.
 #[derive(Clone, Copy)]
 pub(crate) enum Part {
     /// The axis count.
@@ -32,6 +32,10 @@ pub(crate) enum Part {
     Best,
     /// The rule of a number, with its E.
     Rule(u64),
+    /// The lower limit of an axis.
+    Low(usize),
+    /// The upper limit of an axis.
+    High(usize),
 }
 
 impl Part {
@@ -48,6 +52,8 @@ impl Part {
             (6, 1..=9) => Some(Part::Gathered(index)),
             (7, 0) => Some(Part::Best),
             (8, 1..=3) => Some(Part::Rule(which)),
+            (9, 1..=8) => Some(Part::Low(index)),
+            (10, 1..=8) => Some(Part::High(index)),
             _ => None,
         }
     }
@@ -75,6 +81,8 @@ impl Search {
             Part::Gathered(index) => self.gathered.put_cost(index, value),
             Part::Best => self.best.cost = value,
             Part::Rule(number) => self.write_rule(number, value),
+            Part::Low(index) => self.axes[index].lo = f64::from_bits(value),
+            Part::High(index) => self.axes[index].hi = f64::from_bits(value),
         }
         self.restore();
     }
@@ -113,7 +121,7 @@ impl Search {
             return;
         }
         self.centroid = self.centroid_of_standing();
-        self.reflected.point = self.reflection();
+        self.reflected.point = self.reflection().point;
         self.moved = self.moved_before(self.vertices);
         self.set_trial();
     }
@@ -122,7 +130,7 @@ impl Search {
     fn moved_before(&self, vertices: usize) -> f64 {
         (1..vertices).fold(0.0, |sum, index| {
             let old = self.standing.point(index);
-            add_differences(sum, self.n, old, &self.shrunk_trial(index))
+            add_differences(sum, self.n, old, &self.shrunk_trial(index).point)
         })
     }
 
@@ -173,7 +181,7 @@ impl Search {
 
 /// Adds the words of coordinates.
 fn extend_point(words: &mut Vec<u64>, coordinates: &[f64]) {
-    words.extend(coordinates.iter().map(|x| x.to_bits()));
+    words.extend(coordinates.iter().map(|&x| shown_bits(x)));
 }
 
 /// Adds the words of places 1 to 9.

@@ -1,21 +1,23 @@
 //! The probe round and its two ends: restart and settled.
 
 use crate::search::{Cause, Phase, Search};
-use crate::types::{Point, Vertex};
+use crate::types::{Clamped, Vertex};
 
 /// The part of a step that a probe goes.
 const PROBE_FACTOR: f64 = 0.0009765625;
 
 impl Search {
     /// The probe after so many are told: for each axis the clamp of b + d, then of b − d.
-    pub(crate) fn probe_trial(&self, told: usize) -> Point {
-        let i = told / 2;
-        let axis = &self.axes[i];
-        let b = self.best.point[i];
-        let d = axis.step * PROBE_FACTOR;
-        let mut point = self.clamped(&self.best.point);
-        point[i] = axis.clamp(if told.is_multiple_of(2) { b + d } else { b - d });
-        point
+    pub(crate) fn probe_trial(&self, told: usize) -> Clamped {
+        self.clamped(|i| {
+            let b = self.best.point[i];
+            let d = self.axes[i].step * PROBE_FACTOR;
+            match told {
+                _ if i != told / 2 => b,
+                _ if told.is_multiple_of(2) => b + d,
+                _ => b - d,
+            }
+        })
     }
 
     /// Takes a probe reading: lower than b's restarts around it; the last of 2n settles the search.

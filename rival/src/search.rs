@@ -1,7 +1,7 @@
 //! The search: what its opening gave and what the readings made of it.
 
 use crate::simplex::Simplex;
-use crate::types::{Axis, Coefficients, Point, Rule, Vertex, MAX_AXES, ORIGIN};
+use crate::types::{Axis, Clamped, Coefficients, Point, Rule, Vertex, MAX_AXES, ORIGIN};
 
 /// The side of a contraction.
 #[derive(Clone, Copy, Debug, PartialEq, Eq)]
@@ -122,8 +122,8 @@ pub struct Search {
     pub(crate) reflected: Vertex,
     /// The squared differences of the vertices replaced so far by the iteration.
     pub(crate) moved: f64,
-    /// The point that the rules ask next.
-    pub(crate) trial: Point,
+    /// The point that the rules ask next, with its stops.
+    pub(crate) trial: Clamped,
 }
 
 impl Search {
@@ -151,7 +151,7 @@ impl Search {
             centroid: ORIGIN,
             reflected: Vertex::ZERO,
             moved: 0.0,
-            trial: ORIGIN,
+            trial: Clamped::ORIGIN,
         }
     }
 }

@@ -1,5 +1,7 @@
 //! Lines, fields and numbers of the texts that the programs read and print.
 
+use crate::types::shown_bits;
+
 /// The number, from 1, of a malformed line.
 #[derive(Clone, Copy, Debug, PartialEq, Eq)]
 pub(crate) struct Malformed(pub(crate) u64);
@@ -97,7 +99,7 @@ pub(crate) fn put_word(out: &mut Vec<u8>, number: u64) {
 
 /// Prints a space and the words of coordinates.
 pub(crate) fn put_point(out: &mut Vec<u8>, coordinates: &[f64]) {
-    for coordinate in coordinates {
-        put_word(out, coordinate.to_bits());
+    for &coordinate in coordinates {
+        put_word(out, shown_bits(coordinate));
     }
 }

@@ -32,16 +32,16 @@ pub struct Axis {
 }
 
 impl Axis {
-    /// Clamp v.
-    pub(crate) fn clamp(&self, v: f64) -> f64 {
+    /// Clamp v; with it 1 where that is a stop, since lo or hi is answered in place of v, else 0.
+    pub(crate) fn clamp(&self, v: f64) -> (f64, u64) {
         if self.lo <= v {
             if v <= self.hi {
-                v
+                (v, 0)
             } else {
-                self.hi
+                (self.hi, 1)
             }
         } else {
-            self.lo
+            (self.lo, 1)
         }
     }
 }
@@ -102,7 +102,7 @@ impl Rule {
 }
 
 /// The bits by which a float is shown: every NaN by the same.
-fn shown_bits(x: f64) -> u64 {
+pub(crate) fn shown_bits(x: f64) -> u64 {
     if x.is_nan() {
         0x7ff8_0000_0000_0000
     } else {
@@ -143,11 +143,30 @@ impl Vertex {
     };
 }
 
-/// The point asked next, with its reading number.
+/// A point clamped axis by axis, with its stops.
+#[derive(Clone, Copy, Debug, PartialEq)]
+pub(crate) struct Clamped {
+    /// The point.
+    pub(crate) point: Point,
+    /// How many of its axes the clamp changed.
+    pub(crate) stops: u64,
+}
+
+impl Clamped {
+    /// The point whose coordinates are all 0, no stop among them.
+    pub(crate) const ORIGIN: Clamped = Clamped {
+        point: ORIGIN,
+        stops: 0,
+    };
+}
+
+/// The point asked next, with its reading number and its stops.
 #[derive(Clone, Copy, Debug, PartialEq)]
 pub struct Trial {
     /// The reading number, accepted readings + 1.
     pub number: u64,
     /// The point.
     pub point: [f64; 8],
+    /// How many of its axes the clamp changed.
+    pub stops: u64,
 }

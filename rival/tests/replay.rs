@@ -9,7 +9,7 @@ fn example_of_the_format() {
     let script = format!("{}a\n{}{}b\n", opening(1, 1, 1, 4), tell(1, 4), tell(1, 4));
     let expected = "\
 o 0000000000000000 0000000000000000
-a 0000000000000000 0000000000000001 0000000000000000 0000000000000000 0000000000000000 0000000000000000 0000000000000000 0000000000000000 0000000000000000 0000000000000000
+a 0000000000000000 0000000000000001 0000000000000000 0000000000000000 0000000000000000 0000000000000000 0000000000000000 0000000000000000 0000000000000000 0000000000000000 0000000000000000
 t 0000000000000000
 t 000000000000000a
 b 0000000000000000 0000000000000000 0000000000000000 0000000000000000 0000000000000000 0000000000000000 0000000000000000 0000000000000000 0000000000000000 0000000000000004
@@ -22,7 +22,7 @@ fn calls_before_an_opening_meet_the_closed_search() {
     let expected = format!(
         "a{}{}\nt{}\nb{}{}\ns{}{}\n",
         word(8),
-        zeros(9),
+        zeros(10),
         word(8),
         word(11),
         zeros(9),
@@ -42,11 +42,11 @@ fn a_refused_opening_closes_the_search() {
         zeros(2),
         word(0),
         word(1),
-        zeros(8),
+        zeros(9),
         word(2),
         word(1),
         word(8),
-        zeros(9),
+        zeros(10),
         word(1),
         word(0)
     );
@@ -70,7 +70,7 @@ fn every_rule_is_read() {
 
 #[test]
 fn malformed_lines_end_the_transcript() {
-    let closed_ask = format!("a{}{}\n", word(8), zeros(9));
+    let closed_ask = format!("a{}{}\n", word(8), zeros(10));
     let expected = format!("{closed_ask}x{}\n", word(2));
     let long = opening(1, 1, 1, 4);
     for line in [
@@ -87,6 +87,11 @@ fn malformed_lines_end_the_transcript() {
         format!("p{}{}\n", word(0), word(0)),
         write(0, 0, 1).replace('\n', " 0000000000000000\n"),
         write(9, 0, 1),
+        write(9, 9, 1),
+        write(10, 0, 1),
+        write(10, 9, 1),
+        write(10, (1 << 32) + 1, 1),
+        write(11, 1, 1),
         write(u64::MAX, 0, 1),
         write(0, 1, 1),
         write(3, 0, 1),

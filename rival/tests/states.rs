@@ -150,8 +150,11 @@ fn every_part_is_written() {
     let standing = (1..=9).map(|place| (5, place, 66 + 9 * place as usize));
     let gathered = (1..=9).map(|place| (6, place, 147 + 9 * place as usize));
     let rules = [(8, 1, 2), (8, 2, 2), (8, 3, 2)];
+    let low = (1..=8).map(|axis| (9, axis, 4 + 4 * axis as usize));
+    let high = (1..=8).map(|axis| (10, axis, 5 + 4 * axis as usize));
     let all = plain.into_iter().chain(counts).chain(phases);
-    for (part, which, at) in all.chain(standing).chain(gathered).chain(rules) {
+    let all = all.chain(standing).chain(gathered).chain(rules);
+    for (part, which, at) in all.chain(low).chain(high) {
         for script in [String::new(), example(&[30, 20, 10, 31, 30])] {
             let script = script + &write(part, which, value);
             assert_eq!(last_line(&script), "p");
@@ -172,7 +175,7 @@ fn phases_without_a_detail() {
 #[test]
 fn calls_go_on_from_what_is_written() {
     let script = example(&[30, 20, 10]) + &write(4, 2, 5);
-    let expansion = word(0) + &word(4) + &floats(&[1.5, 1.5]) + &zeros(6);
+    let expansion = word(0) + &word(4) + &floats(&[1.5, 1.5]) + &zeros(7);
     assert_eq!(
         last_line(&(script.clone() + "a\n")),
         format!("a{expansion}")
@@ -180,7 +183,7 @@ fn calls_go_on_from_what_is_written() {
     let script = script + &write(2, 0, 100);
     assert_eq!(
         last_line(&(script.clone() + "a\n")),
-        format!("a{}{}", word(12), zeros(9))
+        format!("a{}{}", word(12), zeros(10))
     );
     let script = script + &write(1, 0, 101) + &tell(101, 4);
     assert_eq!(last_line(&script), format!("t{}", word(0)));
@@ -194,5 +197,20 @@ fn a_nan_has_one_word() {
         let line = last_line(&(example(&[]) + &write(8, rule, nan) + "s\n"));
         let shown = word(rule) + &word(0x7ff8_0000_0000_0000);
         assert_eq!(line.get(18..52), Some(shown.as_str()));
+    }
+    let shown = word(0x7ff8_0000_0000_0000);
+    for (part, at) in [(9, 8), (10, 9)] {
+        let script = example(&[]) + &write(part, 1, u64::MAX);
+        assert_eq!(word_of(&script, at), shown.trim());
+    }
+    // lo is the trial's coordinate then, the vertex's and the best's.
+    let script = example(&[]) + &write(9, 1, 0xfff0_0000_0000_0001);
+    let asked = word(0) + &word(1) + &shown + &zeros(7) + &word(1);
+    assert_eq!(last_line(&(script.clone() + "a\n")), format!("a{asked}"));
+    let script = script + &tell(1, 7);
+    let best = word(0) + &shown + &zeros(7) + &word(7);
+    assert_eq!(last_line(&(script.clone() + "b\n")), format!("b{best}"));
+    for at in [50, 147 + 1] {
+        assert_eq!(word_of(&script, at), shown.trim());
     }
 }

@@ -44,12 +44,14 @@ fn put_ask(out: &mut Vec<u8>, search: &Search) {
     let none = Trial {
         number: 0,
         point: ORIGIN,
+        stops: 0,
     };
     let (verdict, trial) = verdict(search.ask(), none);
     out.push(b'a');
     put_word(out, verdict);
     put_word(out, trial.number);
     put_point(out, &trial.point);
+    put_word(out, trial.stops);
 }
 
 /// Tells.

@@ -23,17 +23,45 @@ fn number(search: &Search, seed: &mut u64) -> u64 {
     }
 }
 
+/// A made-up limit, most often about a coordinate.
+fn limit(search: &Search, seed: &mut u64) -> u64 {
+    let asked = search.trial.point[next(seed) as usize % 8];
+    let limits = [
+        asked,
+        asked.next_up(),
+        asked.next_down(),
+        -asked,
+        f64::NAN,
+        -f64::NAN,
+        f64::INFINITY,
+        f64::NEG_INFINITY,
+        -0.0,
+        8.0,
+    ];
+    limits[next(seed) as usize % limits.len()].to_bits()
+}
+
 /// Writes some part, put back in most cases where calls are then refused with 12.
 fn write_any(search: &mut Search, seed: &mut u64) {
     let before = search.clone();
-    let part = next(seed) % 9;
-    let most = [0, 0, 0, 7, 8, 9, 9, 0, 3][part as usize];
-    let which = u64::from([3, 5, 6, 8].contains(&part)).max(next(seed) % (most + 1));
-    let value = number(search, seed);
+    let part = next(seed) % 11;
+    let most = [0, 0, 0, 7, 8, 9, 9, 0, 3, 8, 8][part as usize];
+    let from_1 = ![0, 1, 2, 4, 7].contains(&part);
+    let which = u64::from(from_1).max(next(seed) % (most + 1));
+    let value = match part {
+        9 | 10 => limit(search, seed),
+        _ => number(search, seed),
+    };
     write(search, (part, which, value));
     if search.ask() == Err(Refusal::numbered(12)) && !next(seed).is_multiple_of(8) {
         *search = before;
     }
+}
+
+/// What a search asks, by its bits: a made-up limit may be a NaN.
+fn asked(search: &Search) -> Result<(u64, Vec<u64>, u64), Refusal> {
+    let trial = search.ask()?;
+    Ok((trial.number, bits(&trial.point), trial.stops))
 }
 
 /// Tells any cost, also to a copy whose carried numbers are worked out anew.
@@ -42,14 +70,15 @@ fn tell_any(search: &mut Search, seed: &mut u64) {
     let mut anew = search.clone();
     write(&mut anew, (1, 0, search.budget));
     assert_eq!(anew.words(), before);
-    assert_eq!(anew.ask(), search.ask());
-    assert_eq!(anew.best(), search.best());
+    assert_eq!(asked(&anew), asked(search));
+    let best = |search: &Search| search.best().map(|best| (bits(&best.point), best.cost));
+    assert_eq!(best(&anew), best(search));
     let reading = search.readings.wrapping_add(1);
     let cost = next(seed) % 24;
     let told = search.tell(reading, cost);
     assert_eq!(anew.tell(reading, cost), told);
     assert_eq!(anew.words(), search.words());
-    assert_eq!(anew.ask(), search.ask());
+    assert_eq!(asked(&anew), asked(search));
     assert_eq!(told.is_err(), before == search.words());
 }
 

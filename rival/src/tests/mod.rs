@@ -10,6 +10,7 @@ mod parts;
 mod probing;
 mod refusals;
 mod stopping;
+mod stops;
 
 use crate::search::Search;
 use crate::types::{Axis, Coefficients, Point, Rule, ORIGIN};
@@ -83,6 +84,14 @@ fn assert_trial(search: &Search, number: u64, coordinates: &[f64]) {
     let trial = search.ask().expect("ask");
     assert_eq!(trial.number, number);
     assert_eq!(bits(&trial.point), bits(&padded(coordinates)));
+}
+
+/// Asserts how many axes the trial has at their stops, and its coordinates.
+#[track_caller]
+fn assert_stops(search: &Search, stops: u64, coordinates: &[f64]) {
+    let trial = search.ask().expect("ask");
+    assert_eq!(bits(&trial.point), bits(&padded(coordinates)));
+    assert_eq!(trial.stops, stops);
 }
 
 /// Asserts a vertex of the standing simplex, by its place from 1.

@@ -24,6 +24,12 @@ fn unusual(costs: &[u64]) -> Search {
     after(opened.expect("opening"), costs)
 }
 
+/// The bits of clamp v, and whether it is a stop.
+fn clamped(record: Axis, v: f64) -> (u64, u64) {
+    let (x, stop) = record.clamp(v);
+    (x.to_bits(), stop)
+}
+
 #[test]
 fn clamp_keeps_the_value_within_its_limits() {
     let record = Axis {
@@ -33,12 +39,41 @@ fn clamp_keeps_the_value_within_its_limits() {
     };
     let under = f64::from_bits(8.0f64.to_bits() - 1);
     for kept in [0.0, -0.0, f64::from_bits(1), under, 8.0] {
-        assert_eq!(record.clamp(kept).to_bits(), kept.to_bits());
+        assert_eq!(clamped(record, kept), (kept.to_bits(), 0));
     }
     let past = f64::from_bits(8.0f64.to_bits() + 1);
     for (v, limit) in [(-f64::from_bits(1), 0.0f64), (f64::NAN, 0.0), (past, 8.0)] {
-        assert_eq!(record.clamp(v).to_bits(), limit.to_bits());
+        assert_eq!(clamped(record, v), (limit.to_bits(), 1));
     }
+}
+
+#[test]
+fn clamp_between_limits_that_no_opening_takes() {
+    let given = |lo, hi, v| {
+        let limits = Axis {
+            lo,
+            hi,
+            ..USUAL_AXIS
+        };
+        clamped(limits, v)
+    };
+    let (one, two, nan) = (1f64.to_bits(), 2f64.to_bits(), f64::NAN.to_bits());
+    // Below lo gives lo, also where lo is above hi; only then is hi looked at.
+    assert_eq!(given(2.0, 1.0, 0.5), (two, 1));
+    assert_eq!(given(2.0, 1.0, 1.5), (two, 1));
+    assert_eq!(given(2.0, 1.0, 2.0), (one, 1));
+    for v in [1.0, f64::INFINITY, f64::NEG_INFINITY, f64::NAN] {
+        assert_eq!(given(f64::NAN, 2.0, v), (nan, 1));
+    }
+    assert_eq!(given(1.0, f64::NAN, 0.5), (one, 1));
+    assert_eq!(given(1.0, f64::NAN, 1.0), (nan, 1));
+    assert_eq!(given(2.0, 2.0, 2.0), (two, 0));
+    assert_eq!(given(-0.0, 0.0, -0.0), ((-0.0f64).to_bits(), 0));
+    let farthest = f64::INFINITY;
+    assert_eq!(
+        given(-farthest, farthest, farthest),
+        (farthest.to_bits(), 0)
+    );
 }
 
 #[test]

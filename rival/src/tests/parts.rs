@@ -31,7 +31,8 @@ fn words_that_name_no_part() {
         assert!(!search.write_part(part, most + 1, 0));
         assert!(!search.write_part(part, u64::MAX, 0));
     }
-    for (part, most) in [(3, 7), (5, 9), (6, 9), (8, 3), (9, 0), (u64::MAX, 0)] {
+    let counted = [(3, 7), (5, 9), (6, 9), (8, 3), (9, 8), (10, 8)];
+    for (part, most) in counted.into_iter().chain([(11, 0), (u64::MAX, 0)]) {
         assert!(!search.write_part(part, 0, 0));
         assert!(!search.write_part(part, most + 1, 0));
         assert!(!search.write_part(part, (1 << 32) + 1, 0));
@@ -50,8 +51,10 @@ fn every_part_is_shown() {
     let counts = (1..=7).map(|which| (3, which, 42 + which));
     let standing = (1..=9).map(|place| (5, place, 66 + 9 * place));
     let gathered = (1..=9).map(|place| (6, place, 147 + 9 * place));
+    let low = (1..=8).map(|axis| (9, axis, 4 + 4 * axis));
+    let high = (1..=8).map(|axis| (10, axis, 5 + 4 * axis));
     let all = parts.into_iter().chain(counts).chain(standing);
-    for (part, which, at) in all.chain(gathered) {
+    for (part, which, at) in all.chain(gathered).chain(low).chain(high) {
         let value = 1_000_000_007 * (at + 1);
         write(&mut search, (part, which, value));
         expected[at as usize] = value;
