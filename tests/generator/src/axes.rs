@@ -197,8 +197,22 @@ fn half(random: &mut Random) -> Axis {
     }
 }
 
-/// Half of the range from its middle, which may round past both limits.
+/// Half of the range from its middle, if it can be such that the step rounds past both limits.
 fn middle(random: &mut Random) -> Axis {
+    let draws: Vec<Axis> = (0..20).map(|_| halved(random)).collect();
+    let past = |axis: &&Axis| {
+        let Axis {
+            lo,
+            hi,
+            start,
+            step,
+        } = **axis;
+        start + step > hi && start - step < lo && fits(axis)
+    };
+    *draws.iter().find(past).unwrap_or(&draws[0])
+}
+
+fn halved(random: &mut Random) -> Axis {
     let lo = random.within(-2.0, 0.0);
     let hi = random.within(0.0, 2.0);
     Axis {

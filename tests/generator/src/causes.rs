@@ -4,7 +4,7 @@
 use crate::costs::DARK;
 use crate::openings::{MOST_BUDGET, MOST_SPREAD, SPREAD};
 use crate::state::{State, Written};
-use rival::replay::Replay;
+use rival::Search;
 
 pub const CAUSES: [&str; 25] = [
     "n below",
@@ -81,15 +81,14 @@ struct Met {
 /// Follows a script that writes parts.
 #[derive(Default)]
 pub struct Watch {
-    replay: Replay,
     met: Vec<Met>,
     /// Whether a part of the search was written.
     made_up: bool,
 }
 
 impl Watch {
-    /// Takes a line of the script, and the verdict of its answer.
-    pub fn see(&mut self, line: &[u8], verdict: u64, causes: &mut Causes) {
+    /// Takes a line of the script, the verdict of its answer and the search that the line was handed.
+    pub fn see(&mut self, line: &[u8], verdict: u64, search: &Search, causes: &mut Causes) {
         let call = b"atb"
             .iter()
             .position(|letter| line.first() == Some(letter));
@@ -99,38 +98,32 @@ impl Watch {
                 .for_each(|met| causes.add(met, call, verdict));
         }
         match line.first() {
-            Some(b'p') => self.write(line),
-            Some(b'o') => self.open(line),
-            Some(b't') if verdict == 0 => self.tell(line, causes),
+            Some(b'p') => self.write(line, search),
+            Some(b'o') => self.open(),
+            Some(b't') if verdict == 0 => self.tell(search, causes),
             _ => {}
         }
     }
 
-    fn open(&mut self, line: &[u8]) {
+    fn open(&mut self) {
         self.made_up = false;
-        self.go_on(line);
+        self.met.clear();
     }
 
-    fn tell(&mut self, line: &[u8], causes: &mut Causes) {
+    fn tell(&mut self, search: &Search, causes: &mut Causes) {
         if self.made_up {
-            let phase = State::of(self.replay.search()).phase();
+            let phase = State::of(search).phase();
             let count = causes.made_up.get_mut(phase as usize);
             count.into_iter().for_each(|count| *count += 1);
         }
-        self.go_on(line);
-    }
-
-    fn go_on(&mut self, line: &[u8]) {
         self.met.clear();
-        self.replay.answer(line, &mut Vec::new());
     }
 
-    fn write(&mut self, line: &[u8]) {
-        let search = self.replay.search();
+    fn write(&mut self, line: &[u8], search: &Search) {
         let state = State::of(search);
         let sound = search.ask().is_ok() && state.is_fixed();
         self.made_up = true;
-        self.go_on(line);
+        self.met.clear();
         if sound {
             self.met = met(&state, words(line));
         }

@@ -1,5 +1,6 @@
 //! The course of one search: an opening, then tells with their costs and other calls among them.
 
+use crate::corners;
 use crate::costs::{Costs, DARK};
 use crate::edges;
 use crate::openings::{self, Opening};
@@ -32,11 +33,16 @@ pub fn usual_tells(random: &mut Random) -> u64 {
     }
 }
 
-/// A search opened and led for so many tells, or to its end.
+/// A search opened and led for so many tells, or to its end; one in six runs into a corner, and all its trials are asked.
 pub fn course(script: &mut Script, random: &mut Random, manner: Manner, tells: u64) {
-    let mut opening = openings::fitting(random, tells);
-    let costs = planned_costs(random, &mut opening, tells);
-    lead(script, random, manner, &opening, costs, tells);
+    if random.one_in(6) {
+        let (opening, costs) = corners::search(random);
+        lead(script, random, Manner::Neat, &opening, costs, tells);
+    } else {
+        let mut opening = openings::fitting(random, tells);
+        let costs = planned_costs(random, &mut opening, tells);
+        lead(script, random, manner, &opening, costs, tells);
+    }
 }
 
 /// The costs of a search. In some searches the rule's threshold or the budget is set to an edge that they meet.

@@ -1,7 +1,8 @@
 //! What a run covered, counted in the scripts and their transcripts.
 
 use crate::causes::{Causes, Watch};
-use crate::state;
+use crate::stops::{Origin, Stops};
+use rival::replay::Replay;
 
 /// Calls of one kind.
 #[derive(Clone, Default)]
@@ -52,6 +53,7 @@ pub struct Coverage {
     /// Scripts whose malformed line is of that kind.
     pub malformed_parts: u64,
     pub causes: Causes,
+    pub stops: Stops,
     /// `s` lines of opened searches by phase, while no part is written.
     pub phases: [u64; 9],
     /// Searches that were last shown ended, settled and by the budget.
@@ -80,21 +82,29 @@ impl Coverage {
             self.add_line(line, &mut shown);
         }
         self.end_search(&mut shown);
-        if state::writes_parts(script) {
-            self.add_causes(script, transcript);
-        }
+        self.follow(script, transcript);
     }
 
-    /// Reads a script and its transcript in step, one line of each, as far as no line is malformed.
-    fn add_causes(&mut self, script: &[u8], transcript: &[u8]) {
+    /// Reads a script and its transcript in step, one line of each, as far as no line is malformed. The rival's own search goes along.
+    fn follow(&mut self, script: &[u8], transcript: &[u8]) {
+        let mut replay = Replay::default();
         let mut watch = Watch::default();
+        let mut origin = Origin::default();
         let answers = transcript.split(|b| *b == b'\n');
         for (line, answer) in script.split(|b| *b == b'\n').zip(answers) {
             if line.is_empty() || line.first() != answer.first() {
                 self.malformed_parts += u64::from(line.first() == Some(&b'p'));
                 return;
             }
-            watch.see(line, word(answer, 0), &mut self.causes);
+            let verdict = word(answer, 0);
+            watch.see(line, verdict, replay.search(), &mut self.causes);
+            origin.see(line);
+            if line == b"a" && verdict == 0 {
+                origin.count(replay.search(), word(answer, 10), &mut self.stops);
+            }
+            if changes(line, verdict) {
+                replay.answer(line, &mut Vec::new());
+            }
         }
     }
 
@@ -190,6 +200,7 @@ impl Coverage {
         self.written += other.written;
         self.malformed_parts += other.malformed_parts;
         self.causes.join(&other.causes);
+        self.stops.join(&other.stops);
         add_all(&mut self.phases, &other.phases);
         add_all(&mut self.endings, &other.endings);
         add_all(&mut self.pieces, &other.pieces);
@@ -203,6 +214,15 @@ impl Coverage {
         add_all(&mut self.text_ends, &other.text_ends);
         add_all(&mut self.text_refusals, &other.text_refusals);
         add_all(&mut self.text_bad, &other.text_bad);
+    }
+}
+
+/// Whether a line may leave another search than it was handed: an opening, a part written or an accepted tell.
+fn changes(line: &[u8], verdict: u64) -> bool {
+    match line.first() {
+        Some(b'o' | b'p') => true,
+        Some(b't') => verdict == 0,
+        _ => false,
     }
 }
 

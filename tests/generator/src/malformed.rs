@@ -86,7 +86,9 @@ fn other_part(random: &mut Random, text: &mut Vec<u8>) {
         (6, 9),
         (7, 0),
         (8, 3),
-        (9, 0),
+        (9, 8),
+        (10, 8),
+        (11, 0),
     ];
     let (part, most): (u64, u64) = random.pick(&edges);
     let huge = random.pick(&[u64::MAX, 1 << 32, (1 << 32) + most, 1 << 63]);

@@ -3,9 +3,9 @@
 use crate::costs::DARK;
 use crate::random::Random;
 use crate::state::{State, Written};
-use crate::writes::{about, threshold, Draw};
+use crate::writes::{about, limit, threshold, Draw};
 
-const MILD: [Draw; 10] = [
+const MILD: [Draw; 11] = [
     other_axes,
     other_axes,
     phase,
@@ -16,6 +16,7 @@ const MILD: [Draw; 10] = [
     last_budget,
     mild_cost,
     threshold,
+    limit,
 ];
 
 /// A line after which most searches go on.

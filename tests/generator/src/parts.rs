@@ -3,6 +3,7 @@
 use crate::costs::Costs;
 use crate::courses;
 use crate::episodes;
+use crate::limits;
 use crate::mild;
 use crate::openings;
 use crate::random::Random;
@@ -85,11 +86,12 @@ fn measure(script: &mut Script, random: &mut Random, costs: &mut Costs) {
 }
 
 fn episode(script: &mut Script, random: &mut Random, costs: &mut Costs) {
-    match random.below(14) {
+    match random.below(18) {
         0 | 1 => several(script, random, costs),
         2..=4 => going_on(script, random, costs),
         5 => episodes::outside_the_limits(script, random),
         6 => episodes::at_a_threshold(script, random),
+        7..=10 => limits::episode(script, random, costs),
         _ => {
             let line = writes::at_an_edge(random, &script.state());
             written(script, random, costs, line);

@@ -42,6 +42,12 @@ impl State {
         self.count(1)
     }
 
+    /// The bits of lo and hi of an axis, from 1.
+    pub fn limits(&self, axis: u64) -> [u64; 2] {
+        let lo = 4 + 4 * axis as usize;
+        [self.0[lo], self.0[lo + 1]]
+    }
+
     pub fn best(&self) -> u64 {
         self.0[58]
     }
@@ -49,6 +55,12 @@ impl State {
     /// The cost at a place of the standing simplex, from 1.
     pub fn standing(&self, place: u64) -> u64 {
         self.0[66 + 9 * place as usize]
+    }
+
+    /// The coordinates' bits there.
+    pub fn standing_point(&self, place: u64) -> &[u64] {
+        let cost = 66 + 9 * place as usize;
+        &self.0[cost - 8..cost]
     }
 
     pub fn gathered(&self, place: u64) -> u64 {
@@ -83,6 +95,8 @@ impl State {
             5 => [5, which, self.standing(which)],
             6 => [6, which, self.gathered(which)],
             7 => [7, 0, self.best()],
+            9 => [9, which, self.limits(which)[0]],
+            10 => [10, which, self.limits(which)[1]],
             _ => [8, self.0[1], self.0[2]],
         }
     }

@@ -2,6 +2,7 @@
 
 use crate::causes::{Causes, CALLS, CAUSES};
 use crate::coverage::{Coverage, ENDS};
+use crate::stops::{Stops, ORIGINS};
 
 const LEAST_TELLS: u64 = 200_000;
 const LEAST_TEXTS: u64 = 2_000;
@@ -48,7 +49,21 @@ pub fn print(c: &Coverage) {
     println!("finished {}", named(&PIECES, &c.pieces));
     println!("states shown {}", named(&PHASES, &c.phases));
     print_causes(c);
+    print_stops(&c.stops);
     print_texts(c);
+}
+
+/// One line for each phase and n, of each origin: accepted asks with 0 to n axes at their stops.
+fn print_stops(stops: &Stops) {
+    for (origin, name) in ORIGINS.iter().enumerate() {
+        println!("asks accepted with 0 to n axes at their stops, {name}");
+        for (phase, phase_name) in PHASES[..7].iter().enumerate() {
+            for n in 1..=8 {
+                let counts = &stops.row(origin, phase, n)[..=n];
+                println!("  {phase_name:10} {n} {}", aligned(counts));
+            }
+        }
+    }
 }
 
 /// One line for each cause of refusal 12.
@@ -105,6 +120,7 @@ pub fn missing(c: &Coverage) -> Vec<String> {
     let needs = [
         refusals_needed(c),
         causes_needed(&c.causes),
+        stops_needed(&c.stops),
         searches_needed(c),
         texts_needed(c),
     ]
@@ -137,6 +153,34 @@ fn causes_needed(causes: &Causes) -> Vec<Need> {
         needs.extend(each_name(&edge, &CALLS[..2], accepted));
     }
     needs
+}
+
+/// Every count of stops from 0 to n, for each n in each phase; and where calls alone can make them, of searches that they made.
+fn stops_needed(stops: &Stops) -> Vec<Need> {
+    let mut needs = Vec::new();
+    for (phase, name) in PHASES[..7].iter().enumerate() {
+        for n in 1..=8 {
+            let what = format!("{name} on {n} axes with stops");
+            let all: Vec<usize> = (0..=n).collect();
+            needs.extend(each_number(&what, &all, &stops.whole_row(phase, n)));
+            let called = &all[..=most_by_calls(phase, n)];
+            let what = format!("{what}, {}", ORIGINS[0]);
+            needs.extend(each_number(&what, called, stops.row(0, phase, n)));
+        }
+    }
+    needs
+}
+
+/// The most stops that a trial has in a phase of a search that calls made. A build and a probe move one axis, and all others are within
+/// their limits. A shrunk vertex lies between two vertices, also as it is rounded. A contraction lies between c and a vertex or r, and c is
+/// past a limit only where a sum of n coordinates rounds so, which sums of 1, 2 and 4 do not.
+fn most_by_calls(phase: usize, n: usize) -> usize {
+    match PHASES[phase] {
+        "building" | "probing" => 1,
+        "shrinking" => 0,
+        "outside" | "inside" if [1, 2, 4].contains(&n) => 0,
+        _ => n,
+    }
 }
 
 /// Every refusal from 1 to 11 that a script can meet.

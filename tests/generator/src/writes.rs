@@ -10,7 +10,7 @@ pub type Draw = fn(&mut Random, &State) -> Written;
 /// Huge numbers, some of which are small in their low 32 bits.
 const HUGE: [u64; 4] = [u64::MAX, 1 << 63, 1 << 32, (1 << 32) + 1];
 
-const EDGES: [Draw; 26] = [
+const EDGES: [Draw; 27] = [
     axes,
     axes,
     budget,
@@ -37,6 +37,7 @@ const EDGES: [Draw; 26] = [
     gathered_order,
     gathered_order,
     past_order,
+    limit,
 ];
 
 /// A line at an edge or past it.
@@ -133,6 +134,26 @@ pub fn threshold(random: &mut Random, _: &State) -> Written {
         _ => openings::threshold(random, rule),
     };
     [8, rule, value]
+}
+
+/// A limit that is no cause either: any axis's, also past n, at the other limit or beside it, or odd.
+pub fn limit(random: &mut Random, state: &State) -> Written {
+    let axis = random.between(1, 8);
+    let [lo, hi] = state.limits(axis).map(f64::from_bits);
+    let any = f64::from_bits(random.next());
+    let value = random.pick(&[
+        lo,
+        hi,
+        lo.next_up(),
+        hi.next_down(),
+        -lo,
+        -0.0,
+        f64::NAN,
+        f64::INFINITY,
+        f64::NEG_INFINITY,
+        any,
+    ]);
+    [random.pick(&[9, 10]), axis, value.to_bits()]
 }
 
 /// A number of vertices or probes at an edge.
