@@ -1,8 +1,10 @@
--- Places of a simplex as the code reads and writes them.
-use Rattle.std.specs.Prelude.{◌≡◌, List, ℕ, ◌*◌, set}
+-- Places of a simplex as the code reads and writes them, and a trial before it is filled.
+use Rattle.std.specs.Prelude.{◌≡◌, List, ℕ, ◌*◌, set, replicate}
 use Rattle.std.proofs.Math.Seq.{paste}
+use Rattle.rules.specs.Binary64.{0ᶠ}
 use Rattle.rules.specs.Simplex.{pack, unpack}
 use Rattle.rules.specs.declared.Simplex.{Simplex}
+use Rattle.rules.specs.declared.Trial.{Trial}
 use Rattle.rules.specs.declared.Vertex.{Vertex}
 
 -- s with v at place i, counted from 0
@@ -17,3 +19,7 @@ Clean i s = s ≡ pack (unpack i s)
 pub record Holds (m : ℕ) (s : Simplex) (vs : List Vertex) : Type 0 where
   pub packed : s ≡ pack vs
   pub read : unpack m s ≡ vs
+
+-- a trial that has none of its axes yet
+abbrev pub no_trial : Trial
+no_trial = record { point = replicate 8 0ᶠ; stops = 0 }

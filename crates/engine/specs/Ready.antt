@@ -1,16 +1,10 @@
 -- What an accepted call may take for granted: the bounds that refusal 12 has tested, and that the search has not ended.
-use Rattle.std.specs.Prelude.{◌≡◌, true, false, ◌≤◌, replicate}
-use Rattle.rules.specs.Binary64.{0ᶠ}
+use Rattle.std.specs.Prelude.{◌≡◌, true, false, ◌≤◌}
 use Rattle.rules.specs.Numbers.{max_budget}
 use Rattle.rules.specs.View.{is_ended, gathered_in}
 use Rattle.rules.specs.Calls.{sound_phase, sound_rule, sound_counts, all_costs}
-use Rattle.rules.specs.declared.Trial.{Trial}
 use Rattle.rules.specs.declared.Search.{Search}
 use Rattle.rules.specs.declared.Phase.{Phase}
-
--- a trial before its first axis
-abbrev pub no_trial : Trial
-no_trial = record { point = replicate 8 0ᶠ; stops = 0 }
 
 -- what the trial of a phase needs of its search
 pub record Askable (s : Search) (phase : Phase) : Type 0 where

@@ -5,7 +5,8 @@ ghost use Rattle.std.specs.Prelude.{◌≡◌, cond, ◌+◌, ◌≤◌, ◌<◌
 ghost use Rattle.rules.specs.Binary64.{clamp, clamp_changes};
 ghost use Rattle.rules.specs.Trial.{centroid, toward_reflected, toward_worst, made, trial_in};
 ghost use Rattle.rules.specs.declared.Phase.TheVariants.{Building, Reflecting, Shrinking, Probing};
-ghost use Rattle.engine.specs.Ready.{Askable, no_trial};
+ghost use Rattle.engine.specs.Places.{no_trial};
+ghost use Rattle.engine.specs.Ready.{Askable};
 
 use super::centroid::centroid;
 use super::float::{clamp, clamp_changes, moved_from};
