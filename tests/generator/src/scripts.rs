@@ -17,7 +17,7 @@ pub fn script(seed: u64, number: u64) -> Vec<u8> {
         _ => match random.below(100) {
             0..=21 => malformed::script(&mut random),
             22..=35 => openings(&mut random),
-            36..=51 => parts::script(&mut random).text.into_bytes(),
+            36..=57 => parts::script(&mut random).text.into_bytes(),
             _ => searches(&mut random),
         },
     }

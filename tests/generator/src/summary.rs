@@ -53,15 +53,14 @@ pub fn print(c: &Coverage) {
     print_texts(c);
 }
 
-/// One line for each phase and n, of each origin: accepted asks with 0 to n axes at their stops.
+/// One line for each phase and n: accepted asks with 0 to n axes at their stops, apart by what made the search.
 fn print_stops(stops: &Stops) {
-    for (origin, name) in ORIGINS.iter().enumerate() {
-        println!("asks accepted with 0 to n axes at their stops, {name}");
-        for (phase, phase_name) in PHASES[..7].iter().enumerate() {
-            for n in 1..=8 {
-                let counts = &stops.row(origin, phase, n)[..=n];
-                println!("  {phase_name:10} {n} {}", aligned(counts));
-            }
+    let origins = ORIGINS.join("; ");
+    println!("asks accepted with 0 to n axes at their stops, by phase and n: {origins}");
+    for (phase, name) in PHASES[..7].iter().enumerate() {
+        for n in 1..=8 {
+            let row = |origin| aligned(&stops.row(origin, phase, n)[..=n]);
+            println!("  {name:10} {n} {}", [0, 1, 2].map(row).join("; "));
         }
     }
 }
