@@ -1,4 +1,4 @@
-//! A Nelder-Mead search engine that proposes trials and takes readings, written from document 01 alone.
+//! A Nelder-Mead search engine that proposes trials and takes readings, written from documents 01 and 02 alone.
 #![forbid(unsafe_code)]
 #![warn(missing_docs)]
 
