@@ -1,6 +1,6 @@
 // The parts of a search that a script can write, as no call would (docs/REPLAY.md).
 use numerals::float_of;
-use rules::{Axis, Cause, Counts, Phase, Rule, Search, Side};
+use rules::{Cause, Counts, Phase, Rule, Search, Side};
 
 // One of the seven counts.
 #[derive(Clone, Copy)]
@@ -124,20 +124,6 @@ fn put_cost(costs: &mut [u64; 9], place: usize, value: u64) {
     }
 }
 
-// Writes the lo of an axis.
-fn put_lo(axes: &mut [Axis; 8], axis: usize, value: f64) {
-    if let Some(record) = axes.get_mut(axis) {
-        record.lo = value;
-    }
-}
-
-// Writes the hi of an axis.
-fn put_hi(axes: &mut [Axis; 8], axis: usize, value: f64) {
-    if let Some(record) = axes.get_mut(axis) {
-        record.hi = value;
-    }
-}
-
 // Writes a part of a search.
 pub(super) fn put(search: &mut Search, part: Part) {
     match part {
@@ -150,7 +136,15 @@ pub(super) fn put(search: &mut Search, part: Part) {
         Part::Gathered(place, cost) => put_cost(&mut search.gathered.costs, place, cost),
         Part::Best(cost) => search.best.cost = cost,
         Part::Rule(rule) => search.setup.rule = rule,
-        Part::Lo(axis, lo) => put_lo(&mut search.setup.axes, axis, lo),
-        Part::Hi(axis, hi) => put_hi(&mut search.setup.axes, axis, hi),
+        Part::Lo(axis, lo) => {
+            if let Some(record) = search.setup.axes.get_mut(axis) {
+                record.lo = lo;
+            }
+        }
+        Part::Hi(axis, hi) => {
+            if let Some(record) = search.setup.axes.get_mut(axis) {
+                record.hi = hi;
+            }
+        }
     }
 }
