@@ -10,8 +10,8 @@ use Rattle.rules.specs.Thresholds.{thresholds_given, thresholds_stated}
 use Rattle.rules.specs.Edges.{edges_given, edges_stated, opened_given, opened_stated, clamps_given, clamps_stated}
 use Rattle.rules.specs.Parts.{parts_given, parts_stated, tallies_given, tallies_stated, runs_given, runs_stated, closed_stated}
 use Rattle.rules.specs.Causes.{causes_given, causes_stated, strays_given, strays_stated}
-use Rattle.rules.specs.Stops.{stops_given, stops_stated, limited_given, limited_stated}
-use Rattle.rules.proofs.Examples.{floats, rules}
+use Rattle.rules.specs.Stops.{stops_given, stops_stated, limited_given, limited_stated, asks_given, asks_stated}
+use Rattle.rules.proofs.Examples.{floats, rules, calls}
 
 pub walks : walks_given ≡ walks_stated
 unfolding walks_given walks_stated walk_by rules
@@ -64,3 +64,7 @@ stops = refl
 pub limited : limited_given ≡ limited_stated
 unfolding limited_given limited_stated rules
 limited = refl
+
+pub asks : asks_given ≡ asks_stated
+unfolding asks_given asks_stated calls
+asks = refl

@@ -1,9 +1,12 @@
 -- Worked cases of a trial's stops: its count beside its coordinates, where an axis counts, and where it stands on a limit and does not.
-use Rattle.std.specs.Prelude.{cond, List, [], ◌∷◌, ◌++◌, map, ℕ, replicate, Some}
+use Rattle.std.specs.Prelude.{cond, List, [], ◌∷◌, ◌++◌, map, ℕ, replicate, Some, Result, Ok, Err}
+use Rattle.std.specs.Float.{binary64}
+use Rattle.std.specs.Float.Ieee.{to_bits}
 use Rattle.rules.specs.View.{is_ended}
 use Rattle.rules.specs.Trial.{trial}
 use Rattle.rules.specs.Opening.{zero_axis}
 use Rattle.rules.specs.Numbers.{usual}
+use Rattle.rules.specs.Calls.{asking}
 use Rattle.rules.specs.Cases.{two_axes}
 use Rattle.rules.specs.Walks.{axis_at, coefficients_at, odd_coefficients, begun, asked_bits, walk_by, odd, odd_costs, wide, wide_costs, zeros, zeros_costs, rounds, rounds_costs}
 use Rattle.rules.specs.Parts.{at}
@@ -11,8 +14,11 @@ use Rattle.rules.specs.Causes.{with_phase}
 use Rattle.rules.specs.declared.Axis.{Axis}
 use Rattle.rules.specs.declared.Opening.{Opening}
 use Rattle.rules.specs.declared.Rule.TheVariants.{Spread}
-use Rattle.rules.specs.declared.Phase.TheVariants.{Probing}
+use Rattle.rules.specs.declared.Phase.TheVariants.{Probing, Ended}
+use Rattle.rules.specs.declared.Cause.TheVariants.{Settled}
 use Rattle.rules.specs.declared.Search.{Search}
+use Rattle.rules.specs.declared.Asked.{Asked}
+use Rattle.rules.specs.declared.Refusal.{Refusal}
 
 -- the stops of the trial that a search asks for; none where it has ended
 abbrev pub asked_stops : Search → List ℕ
@@ -174,4 +180,27 @@ limited_stated =
     ∷ (0x3ffc_cccc_cccc_cccd ∷ 0x3fe0_0000_0000_0000 ∷ 1 ∷ []) ∷ (0x3fe6_6f33_3333_3333 ∷ 0 ∷ 1 ∷ [])
     ∷ (0xbfb1_eb85_1eb8_51f0 ∷ 0xbfd8_51eb_851e_b852 ∷ 0 ∷ []) ∷ (0xbfb1_eb85_1eb8_51ef ∷ 0xbfd8_51eb_851e_b853 ∷ 2 ∷ [])
     ∷ (0x3ff0_0000_0000_0000 ∷ 0xbfe0_0000_0000_0000 ∷ 2 ∷ []) ∷ (0x7ff8_0000_0000_0000 ∷ 0x7ff8_0000_0000_0000 ∷ 2 ∷ [])
+    ∷ []
+
+-- what ask answers: the reading number, all eight coordinates by their bits, and the stops; none where it refuses
+abbrev pub answer : Result Asked Refusal → List ℕ
+answer (Ok a) = a.number ∷ map (to_bits binary64) a.trial.point ++ a.trial.stops ∷ []
+answer (Err r) = []
+
+-- answers by the rules
+unfoldable pub asks_given : List (List ℕ)
+asks_given =
+    -- an e that one axis stops, and a shrink that two do; past n nothing shows, and nothing counts
+    answer (asking (at narrow narrow_costs 4))
+    ∷ answer (asking (within 9 (limits 0 0x3ff0_0000_0000_0000) (limits 0xbfe0_0000_0000_0000 0x3fe0_0000_0000_0000)))
+    -- an ended search
+    ∷ answer (asking (with_phase (Ended Settled) (at narrow narrow_costs 4)))
+    ∷ []
+
+-- what the documents say of each, in this order
+unfoldable pub asks_stated : List (List ℕ)
+asks_stated =
+    (5 ∷ 0xbfe3_3333_3333_3333 ∷ 0xbfe4_3958_1062_4dd3 ∷ replicate 6 0 ++ 1 ∷ [])
+    ∷ (10 ∷ 0 ∷ 0xbfe0_0000_0000_0000 ∷ replicate 6 0 ++ 2 ∷ [])
+    ∷ []
     ∷ []
