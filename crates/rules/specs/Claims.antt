@@ -33,9 +33,11 @@ pub record StopsOf (t : Setup) (f : ℕ → Float) (x : Trial) : Type 0 where
   pub many : x.stops ≡ length axes
   pub rising : (i j : ℕ) → i < j → j < length axes → get_or axes i 0 < get_or axes j 0
   pub at_most_n : x.stops ≤ t.n
-  -- an axis counts exactly where its number fails lo ≤ v or v ≤ hi, and exactly where its coordinate is another number; it stands on a limit
+  -- an axis counts exactly where its number fails lo ≤ v or v ≤ hi
   pub outside : (a : ℕ) → Memᴰ a axes ↔ ((a < t.n) × ((((axis t a).lo ≤ᶠ f a) && (f a ≤ᶠ (axis t a).hi)) ≡ false))
-  pub moved : (a : ℕ) → Memᴰ a axes ↔ ((a < t.n) × (get_or x.point a nan ≡ f a → ⊥))
+  -- exactly there its coordinate is another number, and stands on a limit; elsewhere it has the number's bits
+  pub moved : (a : ℕ) → Memᴰ a axes → get_or x.point a nan ≡ f a → ⊥
+  pub kept : (a : ℕ) → a < t.n → (Memᴰ a axes → ⊥) → get_or x.point a nan ≡ f a
   pub on_limit : (a : ℕ) → Memᴰ a axes → (get_or x.point a nan ≡ (axis t a).lo) ⊎ (get_or x.point a nan ≡ (axis t a).hi)
 
 -- S: "adds the costs standing at that end", after the history h

@@ -1,4 +1,4 @@
--- "Build", "Iteration" and the probes of "Stopping, probe, restart": the point that a search asks for next, by its phase.
+-- "Build", "Iteration" and the probes of "Stopping, probe, restart": the trial that a search asks for next, its point and its stops, by its phase.
 use Rattle.std.specs.Prelude.{Bool, cond, List, ℕ, zero, suc, ◌+◌, ◌-◌, ◌*◌, ◌/◌, ◌%◌, get_or, eqb, Float}
 use Rattle.std.specs.Float.{nan}
 use Rattle.rules.specs.Binary64.{probe_factor, float, clamp, clamp_changes, ◌⊕◌, ◌⊖◌, ◌⊗◌, ◌⊘◌, ◌≤ᶠ◌}

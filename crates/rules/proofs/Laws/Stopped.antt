@@ -10,13 +10,13 @@ use native.Mathlib.Omega.{arith}
 use lib.ListN.{length, get_or, length-append, get_or-append}
 use lib.Seq.{get_or-append_seam}
 use lib.Ieee.{Float, nan}
-use Rattle.std.proofs.lemmas.Bool.{cases_Bool, cases_lt, cond_both}
+use Rattle.std.proofs.lemmas.Bool.{cases_Bool, cases_lt, cond_both, false_from_ne_true}
 use Rattle.rules.specs.Binary64.{◌≤ᶠ◌}
 use Rattle.rules.specs.Trial.{axis, clamped, stopped, stops_to, made}
 use Rattle.rules.specs.Claims.{StopsOf}
 use Rattle.rules.specs.declared.Setup.{Setup}
 use Rattle.rules.proofs.Laws.Lists.{get_or_point, mem_get_or}
-use Rattle.rules.proofs.Laws.Clamp.{changes_outside, changes_when, changed_to_limit}
+use Rattle.rules.proofs.Laws.Clamp.{changes_outside, changes_when, unchanged, changed_to_limit}
 
 module _ (t : Setup) (f : ℕ → Float) where
   -- no axis counts twice
@@ -37,21 +37,23 @@ module _ (t : Setup) (f : ℕ → Float) where
     pub exactly : (a : ℕ) → Memᴰ a xs ↔ ((a < k) × (stopped t a (f a) ≡ true))
 
   module _ (k m : ℕ) (xs : List ℕ) (l : Lists k m xs) where
-    j_last : (j : ℕ) → length xs ≤ j → j < length (xs ++ k ∷ []) → get_or (xs ++ k ∷ []) j 0 ≡ k
-    j_last j d h =
+    -- axis k is the last of the longer list
+    last_axis : (j : ℕ) → length xs ≤ j → j < length (xs ++ k ∷ []) → get_or (xs ++ k ∷ []) j 0 ≡ k
+    last_axis j d h =
         let same : length xs ≡ j = omega (arith, rw (length-append xs (k ∷ [])) at h) in
         rw (← same) (get_or-append_seam xs k [] 0)
 
-    -- axis k comes last
+    -- and higher than all before it
     rising_last : (i j : ℕ) → i < j → j < length (xs ++ k ∷ []) → get_or (xs ++ k ∷ []) i 0 < get_or (xs ++ k ∷ []) j 0
     rising_last i j r h =
         let low : i < length xs = omega (arith, rw (length-append xs (k ∷ [])) at h) in
         let kept = get_or-append xs (k ∷ []) 0 i low in
         ⊎_elim
         (λ d. rw (kept, get_or-append xs (k ∷ []) 0 j d) (l.rising i j r d))
-        (λ d. rw (kept, j_last j d h) ((l.exactly (get_or xs i 0)).0 (mem_get_or xs i 0 low)).0)
+        (λ d. rw (kept, last_axis j d h) ((l.exactly (get_or xs i 0)).0 (mem_get_or xs i 0 low)).0)
         (cases_lt j (length xs))
 
+    -- what is in that list counts
     among : (a : ℕ) → Memᴰ a (xs ++ k ∷ []) → stopped t k (f k) ≡ true → (a < suc k) × (stopped t a (f a) ≡ true)
     among a m e =
         ⊎_elim
@@ -59,19 +61,28 @@ module _ (t : Setup) (f : ℕ → Float) where
         (λ u. let q : a ≡ k = Memᴰ.eq_of_singleton u in (omega (arith, q), rw q e))
         (Memᴰ.append_cases xs m)
 
-    -- it counts
+    -- what counts is in that list
+    put_in : (a : ℕ) → (a < suc k) × (stopped t a (f a) ≡ true) → Memᴰ a (xs ++ k ∷ [])
+    put_in a q =
+        ⊎_elim
+        (λ d. Memᴰ.append_right xs (Memᴰ.head d))
+        (λ d. Memᴰ.append_left (k ∷ []) ((l.exactly a).1 (d, q.1)))
+        (eq-or-lt_of_le (le_of_suc-le-suc q.0))
+
+    -- axis k counts
     with_axis : stopped t k (f k) ≡ true → Lists (suc k) (m + 1) (xs ++ k ∷ [])
     with_axis e =
         record {
           many = length-append xs (k ∷ []) ∙ ap (λ (i : ℕ). i + 1) l.many;
           rising = rising_last;
-          exactly = λ a. (λ q. among a q e, λ q. ⊎_elim (λ d. Memᴰ.append_right xs (Memᴰ.head d)) (λ d. Memᴰ.append_left (k ∷ []) ((l.exactly a).1 (d, q.1))) (eq-or-lt_of_le (le_of_suc-le-suc q.0)));
+          exactly = λ a. (λ q. among a q e, λ q. put_in a q);
         }
 
+    -- where axis k does not count, whatever counts stands before it
     before_k : (a : ℕ) → (a < suc k) × (stopped t a (f a) ≡ true) → stopped t k (f k) ≡ false → a < k
     before_k a q e = ⊎_elim (λ d. absurd (true≢false (sym (subst (λ (i : ℕ). stopped t i (f i) ≡ true) d q.1) ∙ e))) (λ d. d) (eq-or-lt_of_le (le_of_suc-le-suc q.0))
 
-    -- it does not
+    -- axis k does not count
     without_axis : stopped t k (f k) ≡ false → Lists (suc k) (m + 0) xs
     without_axis e =
         record {
@@ -80,12 +91,22 @@ module _ (t : Setup) (f : ℕ → Float) where
           exactly = λ a. (λ q. let p = (l.exactly a).0 q in (omega (arith, p.0), p.1), λ q. (l.exactly a).1 (before_k a q e, q.1));
         }
 
-  lists : (k : ℕ) → Lists k (stops_to t f k) (counted_axes k)
+  -- of any setup, and any numbers: the stops are as many as this list has axes, those whose number the clamp changes and no other
+  pub lists : (k : ℕ) → Lists k (stops_to t f k) (counted_axes k)
   unfolding stops_to counted_axes
-  lists zero = record { many = refl; rising = λ i j r h. absurd (omega (arith, h)); exactly = λ a. (λ q. absurd (Memᴰ.not-nil q), λ q. absurd (omega (arith, q.0))) }
+  lists zero =
+      record {
+        many = refl;
+        rising = λ i j r h. absurd (omega (arith, h));
+        exactly = λ a. (λ q. absurd (Memᴰ.not-nil q), λ q. absurd (omega (arith, q.0)));
+      }
   lists (suc k) =
-      let l = lists k in
-      ⊎_elim (λ e. rw e (with_axis k (stops_to t f k) (counted_axes k) l e)) (λ e. rw e (without_axis k (stops_to t f k) (counted_axes k) l e)) (cases_Bool (stopped t k (f k)))
+      let m = stops_to t f k in
+      let xs = counted_axes k in
+      ⊎_elim
+      (λ e. rw e (with_axis k m xs (lists k) e))
+      (λ e. rw e (without_axis k m xs (lists k) e))
+      (cases_Bool (stopped t k (f k)))
 
   -- the stops of a trial whose limits are in order
   pub stops_of : ((a : ℕ) → a < t.n → ((axis t a).lo ≤ᶠ (axis t a).hi) ≡ true) → StopsOf t f (made t t.n f)
@@ -93,14 +114,13 @@ module _ (t : Setup) (f : ℕ → Float) where
       let l = lists t.n in
       let point_at : (a : ℕ) → a < t.n → get_or (made t t.n f).point a nan ≡ clamped t a (f a) = λ a m. get_or_point t.n (λ b. clamped t b (f b)) a m in
       let tests = λ (a : ℕ). changes_outside (axis t a).lo (axis t a).hi (f a) in
-      let moves : (a : ℕ) → a < t.n → (stopped t a (f a) ≡ true) ↔ (get_or (made t t.n f).point a nan ≡ f a → ⊥) =
-      λ a m. rw (point_at a m) (changes_when (axis t a).lo (axis t a).hi (f a) (ordered a m)) in
       record {
         axes = counted_axes t.n;
         many = sym l.many;
         rising = l.rising;
         at_most_n = stops_low t.n;
         outside = λ a. (λ q. let p = (l.exactly a).0 q in (p.0, (tests a).0 p.1), λ q. (l.exactly a).1 (q.0, (tests a).1 q.1));
-        moved = λ a. (λ q. let p = (l.exactly a).0 q in (p.0, (moves a p.0).0 p.1), λ q. (l.exactly a).1 (q.0, (moves a q.0).1 q.1));
+        moved = λ a q. let p = (l.exactly a).0 q in rw (point_at a p.0) ((changes_when (axis t a).lo (axis t a).hi (f a) (ordered a p.0)).0 p.1);
+        kept = λ a m u. rw (point_at a m) (unchanged (axis t a).lo (axis t a).hi (f a) (false_from_ne_true (stopped t a (f a)) (λ e. u ((l.exactly a).1 (m, e)))));
         on_limit = λ a q. let p = (l.exactly a).0 q in rw (point_at a p.0) (changed_to_limit (axis t a).lo (axis t a).hi (f a) p.1);
       }
