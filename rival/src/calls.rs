@@ -55,15 +55,17 @@ impl Search {
 
     /// An accepted cost becomes a reading and moves the rules on.
     fn accept(&mut self, cost: u64) {
+        let number = self.readings + 1;
         let reading = Vertex {
             point: self.trial.point,
             cost,
+            number,
         };
         let lower = cost < self.best.cost;
         if lower || self.readings == 0 {
             self.best = reading;
         }
-        self.readings += 1;
+        self.readings = number;
         self.advance(&reading, lower);
         self.end_at_budget();
         self.set_trial();

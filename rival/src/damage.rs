@@ -32,11 +32,11 @@ impl Search {
             && !matches!(self.rule, Rule::Spread(e) if e > MAX_SPREAD)
     }
 
-    /// Whether the phase's vertex or probe number is one of that phase's trials.
+    /// Whether the phase's vertex or probe number is one of that phase's trials. A build without a vertex has told no reading.
     fn phase_number_holds(&self) -> bool {
         let vertices = self.vertices;
         match self.phase {
-            Phase::Building => vertices <= self.n && (vertices > 0 || self.counts.builds == 0),
+            Phase::Building => vertices <= self.n && (vertices > 0 || self.readings == 0),
             Phase::Shrinking => (1..=self.n).contains(&vertices),
             Phase::Probing(told) => told < 2 * self.n,
             _ => true,
@@ -45,19 +45,12 @@ impl Search {
 
     /// Whether no held cost is above 16,777,215.
     fn costs_hold(&self) -> bool {
-        let fr = match self.phase {
-            Phase::Expanding | Phase::Contracting(_) => self.reflected.cost,
-            _ => 0,
-        };
-        self.standing.costs_hold()
-            && self.gathered.costs_hold()
-            && self.best.cost <= MAX_COST
-            && fr <= MAX_COST
+        self.standing.costs_hold() && self.gathered.costs_hold() && self.best.cost <= MAX_COST
     }
 
-    /// The vertices of the standing simplex, none before the first build ends.
+    /// The vertices of the standing simplex: none where place 1 has no reading's number, as before the first build ends.
     fn standing_vertices(&self) -> usize {
-        match self.counts.builds {
+        match self.standing.numbers[0] {
             0 => 0,
             _ => self.n + 1,
         }

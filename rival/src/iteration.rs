@@ -2,7 +2,7 @@
 
 use crate::search::{Phase, Search, Side};
 use crate::stopping::add_differences;
-use crate::types::{Vertex, MAX_AXES};
+use crate::types::Vertex;
 
 impl Search {
     /// Takes the reading of r, by the rows of the table.
@@ -11,26 +11,26 @@ impl Search {
         let (f1, fn_, fw) = (costs[0], costs[self.n - 1], costs[self.n]);
         self.counts.open += 1;
         if r.cost < f1 {
-            self.keep_reflected(r, Phase::Expanding);
+            self.hold_reflected(r, Phase::Expanding);
         } else if r.cost < fn_ {
             self.counts.reflections += 1;
             self.take(r);
         } else if r.cost < fw {
-            self.keep_reflected(r, Phase::Contracting(Side::Outside));
+            self.hold_reflected(r, Phase::Contracting(Side::Outside));
         } else {
-            self.keep_reflected(r, Phase::Contracting(Side::Inside));
+            self.hold_reflected(r, Phase::Contracting(Side::Inside));
         }
     }
 
-    /// Keeps r while the next point of the iteration is asked.
-    fn keep_reflected(&mut self, r: &Vertex, phase: Phase) {
-        self.reflected = *r;
+    /// Holds r, alone at the first gathered place, while the next point of the iteration is asked.
+    fn hold_reflected(&mut self, r: &Vertex, phase: Phase) {
+        self.gathered.enter(0, r);
         self.phase = phase;
     }
 
-    /// Takes the reading of e: takes e if fe < fr, else r.
+    /// Takes the reading of e: takes e if fe < fr, else r as it is held.
     pub(crate) fn tell_expanded(&mut self, e: &Vertex) {
-        let r = self.reflected;
+        let r = self.gathered.vertex(0);
         self.counts.expansions += 1;
         self.take(if e.cost < r.cost { e } else { &r });
     }
@@ -38,7 +38,7 @@ impl Search {
     /// Takes the reading of a contraction: outside taken if fc ≤ fr, inside if fc < fw, else shrinks.
     pub(crate) fn tell_contracted(&mut self, side: Side, c: &Vertex) {
         let taken = match side {
-            Side::Outside => c.cost <= self.reflected.cost,
+            Side::Outside => c.cost <= self.gathered.costs[0],
             Side::Inside => c.cost < self.standing.costs[self.n],
         };
         if taken {
@@ -57,11 +57,9 @@ impl Search {
         self.finish(Some(moved));
     }
 
-    /// A shrink keeps x1, also where it has coordinates past n.
+    /// A shrink keeps x1 with its number, also where it has coordinates past n.
     fn start_shrink(&mut self) {
-        let mut x1 = Vertex::ZERO;
-        x1.point.copy_from_slice(&self.standing.points[..MAX_AXES]);
-        x1.cost = self.standing.costs[0];
+        let x1 = self.standing.vertex(0);
         self.gather_first(&x1);
         self.moved = 0.0;
         self.phase = Phase::Shrinking;

@@ -15,14 +15,14 @@ impl Search {
     /// The point that the phase asks; an ended search asks none.
     fn next_trial(&self) -> Clamped {
         let k = &self.coefficients;
-        let c = &self.centroid;
-        let r = &self.reflected.point;
         match self.phase {
             Phase::Building => self.build_trial(self.vertices),
             Phase::Reflecting => self.reflection(),
-            Phase::Expanding => self.along(c, k.chi, r, c),
-            Phase::Contracting(Side::Outside) => self.along(c, k.beta, r, c),
-            Phase::Contracting(Side::Inside) => self.along(c, k.beta, self.worst(), c),
+            Phase::Expanding => self.from_centroid(k.chi, &self.reflection().point),
+            Phase::Contracting(Side::Outside) => {
+                self.from_centroid(k.beta, &self.reflection().point)
+            }
+            Phase::Contracting(Side::Inside) => self.from_centroid(k.beta, self.worst()),
             Phase::Shrinking => self.shrunk_trial(self.vertices),
             Phase::Probing(told) => self.probe_trial(told),
             Phase::Ended(_) => Clamped::ORIGIN,
@@ -49,6 +49,11 @@ impl Search {
     pub(crate) fn reflection(&self) -> Clamped {
         let c = &self.centroid;
         self.along(c, self.coefficients.alpha, c, self.worst())
+    }
+
+    /// c + factor·(tip − c), clamped.
+    fn from_centroid(&self, factor: f64, tip: &[f64]) -> Clamped {
+        self.along(&self.centroid, factor, tip, &self.centroid)
     }
 
     /// base + factor·(tip − tail), clamped.

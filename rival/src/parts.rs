@@ -1,15 +1,15 @@
 //! The parts of a search: all of them as words, and one of them written as no call would.
 
 use crate::search::{Cause, Phase, Search, Side};
-use crate::simplex::Simplex;
+use crate::simplex::{Simplex, MAX_VERTICES};
 use crate::stopping::add_differences;
-use crate::types::{shown_bits, Rule};
+use crate::types::{shown_bits, Rule, Vertex};
 
 // An axis count and a number of vertices or probes may be any number of 64 bits.
 const _: () = assert!(usize::BITS == 64);
 
 /// The words of a state line.
-const WORDS: usize = 229;
+const WORDS: usize = 248;
 
 /// A part that can be written. Counts, places and axes go by their index.
 #[derive(Clone, Copy)]
@@ -36,6 +36,12 @@ pub(crate) enum Part {
     Low(usize),
     /// The upper limit of an axis.
     High(usize),
+    /// A reading's number of the standing simplex.
+    StandingNumber(usize),
+    /// A reading's number of the gathered simplex.
+    GatheredNumber(usize),
+    /// The best reading's number.
+    BestNumber,
 }
 
 impl Part {
@@ -54,6 +60,9 @@ impl Part {
             (8, 1..=3) => Some(Part::Rule(which)),
             (9, 1..=8) => Some(Part::Low(index)),
             (10, 1..=8) => Some(Part::High(index)),
+            (11, 1..=9) => Some(Part::StandingNumber(index)),
+            (12, 1..=9) => Some(Part::GatheredNumber(index)),
+            (13, 0) => Some(Part::BestNumber),
             _ => None,
         }
     }
@@ -83,18 +92,19 @@ impl Search {
             Part::Rule(number) => self.write_rule(number, value),
             Part::Low(index) => self.axes[index].lo = f64::from_bits(value),
             Part::High(index) => self.axes[index].hi = f64::from_bits(value),
+            Part::StandingNumber(index) => self.standing.put_number(index, value),
+            Part::GatheredNumber(index) => self.gathered.put_number(index, value),
+            Part::BestNumber => self.best.number = value,
         }
         self.restore();
     }
 
-    /// Writes the phase of a number, with its detail.
+    /// Writes the phase of a number, with its detail if it has one.
     fn write_phase(&mut self, number: u64, detail: u64) {
-        self.vertices = 0;
-        match number {
-            0 | 5 => self.vertices = detail as usize,
-            2..=4 => self.reflected.cost = detail,
-            _ => {}
-        }
+        self.vertices = match number {
+            0 | 5 => detail as usize,
+            _ => 0,
+        };
         self.phase = match number {
             0 => Phase::Building,
             1 => Phase::Reflecting,
@@ -121,7 +131,6 @@ impl Search {
             return;
         }
         self.centroid = self.centroid_of_standing();
-        self.reflected.point = self.reflection().point;
         self.moved = self.moved_before(self.vertices);
         self.set_trial();
     }
@@ -141,8 +150,7 @@ impl Search {
         words.extend(self.phase_words());
         words.push(self.readings);
         words.extend(self.counts.in_order());
-        extend_point(&mut words, &self.best.point);
-        words.push(self.best.cost);
+        extend_vertex(&mut words, &self.best);
         extend_point(&mut words, &self.center);
         extend_simplex(&mut words, &self.standing);
         extend_simplex(&mut words, &self.gathered);
@@ -164,13 +172,12 @@ impl Search {
     /// The phase's number and its detail.
     fn phase_words(&self) -> [u64; 2] {
         let vertices = self.vertices as u64;
-        let fr = self.reflected.cost;
         match self.phase {
             Phase::Building => [0, vertices],
             Phase::Reflecting => [1, 0],
-            Phase::Expanding => [2, fr],
-            Phase::Contracting(Side::Outside) => [3, fr],
-            Phase::Contracting(Side::Inside) => [4, fr],
+            Phase::Expanding => [2, 0],
+            Phase::Contracting(Side::Outside) => [3, 0],
+            Phase::Contracting(Side::Inside) => [4, 0],
             Phase::Shrinking => [5, vertices],
             Phase::Probing(told) => [6, told as u64],
             Phase::Ended(Cause::Settled) => [7, 0],
@@ -184,10 +191,13 @@ fn extend_point(words: &mut Vec<u64>, coordinates: &[f64]) {
     words.extend(coordinates.iter().map(|&x| shown_bits(x)));
 }
 
+/// Adds the words of a vertex: its point, cost and number.
+fn extend_vertex(words: &mut Vec<u64>, vertex: &Vertex) {
+    extend_point(words, &vertex.point);
+    words.extend([vertex.cost, vertex.number]);
+}
+
 /// Adds the words of places 1 to 9.
 fn extend_simplex(words: &mut Vec<u64>, simplex: &Simplex) {
-    for (index, &cost) in simplex.costs.iter().enumerate() {
-        extend_point(words, simplex.point(index));
-        words.push(cost);
-    }
+    (0..MAX_VERTICES).for_each(|index| extend_vertex(words, &simplex.vertex(index)));
 }

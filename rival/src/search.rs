@@ -110,16 +110,14 @@ pub struct Search {
     pub(crate) best: Vertex,
     /// The simplex of the last finished build or iteration.
     pub(crate) standing: Simplex,
-    /// The vertices that an unfinished build or shrink has so far.
+    /// The vertices that an unfinished build or shrink has so far; r alone while e or a contraction is asked.
     pub(crate) gathered: Simplex,
-    /// How many they are; 0 in every other phase until the search ends.
+    /// How many a build or a shrink has; 0 in every other phase until the search ends.
     pub(crate) vertices: usize,
     /// The point that the build is around.
     pub(crate) center: Point,
     /// c of the unfinished iteration.
     pub(crate) centroid: Point,
-    /// r of the unfinished iteration, with its cost.
-    pub(crate) reflected: Vertex,
     /// The squared differences of the vertices replaced so far by the iteration.
     pub(crate) moved: f64,
     /// The point that the rules ask next, with its stops.
@@ -149,7 +147,6 @@ impl Search {
             vertices: 0,
             center: ORIGIN,
             centroid: ORIGIN,
-            reflected: Vertex::ZERO,
             moved: 0.0,
             trial: Clamped::ORIGIN,
         }

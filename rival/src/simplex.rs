@@ -5,13 +5,15 @@ use crate::types::{Vertex, MAX_AXES, MAX_COST};
 /// Vertices that a simplex has at most.
 pub(crate) const MAX_VERTICES: usize = MAX_AXES + 1;
 
-/// The points, in one flat run of 72 numbers, and the costs of nine places; those past its vertices are zeros.
+/// The points, in one flat run of 72 numbers, and the costs and the readings' numbers of nine places; those past its vertices are zeros.
 #[derive(Clone, Debug, PartialEq)]
 pub(crate) struct Simplex {
     /// Coordinates, eight for each vertex.
     pub(crate) points: [f64; MAX_VERTICES * MAX_AXES],
     /// Costs in place order.
     pub(crate) costs: [u64; MAX_VERTICES],
+    /// The numbers of the readings that gave the costs, in place order.
+    pub(crate) numbers: [u64; MAX_VERTICES],
     /// The places from this index on are known to be zeros.
     used: usize,
 }
@@ -21,12 +23,22 @@ impl Simplex {
     pub(crate) const EMPTY: Simplex = Simplex {
         points: [0.0; MAX_VERTICES * MAX_AXES],
         costs: [0; MAX_VERTICES],
+        numbers: [0; MAX_VERTICES],
         used: 0,
     };
 
     /// The eight coordinates of the vertex at an index.
     pub(crate) fn point(&self, index: usize) -> &[f64] {
         &self.points[index * MAX_AXES..(index + 1) * MAX_AXES]
+    }
+
+    /// The vertex at an index.
+    pub(crate) fn vertex(&self, index: usize) -> Vertex {
+        let mut vertex = Vertex::ZERO;
+        vertex.point.copy_from_slice(self.point(index));
+        vertex.cost = self.costs[index];
+        vertex.number = self.numbers[index];
+        vertex
     }
 
     /// A newcomer joins the first so many vertices, and zeros follow.
@@ -41,6 +53,7 @@ impl Simplex {
         if vertices < self.used {
             self.points[vertices * MAX_AXES..self.used * MAX_AXES].fill(0.0);
             self.costs[vertices..self.used].fill(0);
+            self.numbers[vertices..self.used].fill(0);
             self.used = vertices;
         }
     }
@@ -48,6 +61,12 @@ impl Simplex {
     /// Writes a cost, in order or not.
     pub(crate) fn put_cost(&mut self, index: usize, cost: u64) {
         self.costs[index] = cost;
+        self.used = self.used.max(index + 1);
+    }
+
+    /// Writes a reading's number, of one that there was or not.
+    pub(crate) fn put_number(&mut self, index: usize, number: u64) {
+        self.numbers[index] = number;
         self.used = self.used.max(index + 1);
     }
 
@@ -66,6 +85,7 @@ impl Simplex {
         let first = index * MAX_AXES;
         self.points[first..first + MAX_AXES].copy_from_slice(&vertex.point);
         self.costs[index] = vertex.cost;
+        self.numbers[index] = vertex.number;
     }
 
     /// Moves the vertex before a free index to that index.
@@ -73,6 +93,7 @@ impl Simplex {
         let first = index * MAX_AXES;
         self.points.copy_within(first - MAX_AXES..first, first);
         self.costs[index] = self.costs[index - 1];
+        self.numbers[index] = self.numbers[index - 1];
     }
 
     /// Whether the first so many vertices stand in cost order.

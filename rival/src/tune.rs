@@ -110,13 +110,14 @@ fn take_costs(search: &mut Search, lines: &mut Lines, out: &mut Vec<u8>) -> Resu
     Ok(())
 }
 
-/// Prints `end`, the cause, and the best point and cost if a reading was accepted.
+/// Prints `end`, the cause, and the best point, its cost and its reading's number if a reading was accepted.
 fn put_end(out: &mut Vec<u8>, search: Option<&Search>) {
     put_text(out, "end ");
     put_text(out, cause(search));
     if let Some(search) = search {
         if let Ok(best) = search.best() {
             put_reading(out, &best.point[..search.n], best.cost);
+            put_text(out, &format!(" {}", best.number));
         }
     }
     out.push(b'\n');

@@ -126,13 +126,15 @@ impl Refusal {
     }
 }
 
-/// A point and its cost: a reading, or a vertex of the simplex.
+/// A point, its cost and the number of the reading that gave it: a reading, or a vertex of the simplex.
 #[derive(Clone, Copy, Debug, PartialEq)]
 pub struct Vertex {
     /// The point.
     pub point: [f64; 8],
     /// The cost told for it.
     pub cost: u64,
+    /// The number, from 1, of the reading that gave the cost; 0 where no reading did.
+    pub number: u64,
 }
 
 impl Vertex {
@@ -140,6 +142,7 @@ impl Vertex {
     pub(crate) const ZERO: Vertex = Vertex {
         point: ORIGIN,
         cost: 0,
+        number: 0,
     };
 }
 

@@ -12,9 +12,26 @@ o 0000000000000000 0000000000000000
 a 0000000000000000 0000000000000001 0000000000000000 0000000000000000 0000000000000000 0000000000000000 0000000000000000 0000000000000000 0000000000000000 0000000000000000 0000000000000000
 t 0000000000000000
 t 000000000000000a
-b 0000000000000000 0000000000000000 0000000000000000 0000000000000000 0000000000000000 0000000000000000 0000000000000000 0000000000000000 0000000000000000 0000000000000004
+b 0000000000000000 0000000000000000 0000000000000000 0000000000000000 0000000000000000 0000000000000000 0000000000000000 0000000000000000 0000000000000000 0000000000000004 0000000000000001
 ";
     assert_eq!(transcript(&script), expected);
+}
+
+/// "verdict; eight coordinates, the cost and the number of the best reading"
+#[test]
+fn best_ends_with_its_number() {
+    let costs = [9, 5, 5, 6];
+    let script = (1..).zip(costs).map(|(k, cost)| tell(k, cost) + "b\n");
+    let script = opening(1, 1, 1, 9) + &script.collect::<String>();
+    let best = |x, cost, number| word(0) + &floats(&[x]) + &zeros(7) + &word(cost) + &word(number);
+    let shown = [best(0.0, 9, 1), best(1.0, 5, 2)];
+    let lines = transcript(&script);
+    let lines: Vec<&str> = lines.lines().filter_map(|l| l.strip_prefix('b')).collect();
+    assert_eq!(lines, [0, 1, 1, 1].map(|i| shown[i].as_str()));
+    let unread = opening(1, 1, 1, 9) + &write(13, 0, 4) + "b\n";
+    assert_eq!(last_line(&unread), format!("b{}{}", word(11), zeros(10)));
+    let script = script + &write(13, 0, u64::MAX) + "b\n";
+    assert_eq!(last_line(&script), format!("b{}", best(1.0, 5, u64::MAX)));
 }
 
 #[test]
@@ -25,9 +42,9 @@ fn calls_before_an_opening_meet_the_closed_search() {
         zeros(10),
         word(8),
         word(11),
-        zeros(9),
+        zeros(10),
         zeros(1) + &word(1) + &zeros(38) + &word(8),
-        zeros(188)
+        zeros(207)
     );
     assert_eq!(transcript(&format!("a\n{}b\ns\n", tell(1, 1))), expected);
 }
@@ -91,7 +108,14 @@ fn malformed_lines_end_the_transcript() {
         write(10, 0, 1),
         write(10, 9, 1),
         write(10, (1 << 32) + 1, 1),
-        write(11, 1, 1),
+        write(11, 0, 1),
+        write(11, 10, 1),
+        write(12, 0, 1),
+        write(12, 10, 1),
+        write(12, (1 << 32) + 1, 1),
+        write(13, 1, 1),
+        write(14, 0, 1),
+        write(14, 1, 1),
         write(u64::MAX, 0, 1),
         write(0, 1, 1),
         write(3, 0, 1),

@@ -19,13 +19,13 @@ fn example(costs: &[u64]) -> String {
 }
 
 /// A vertex of two axes on a state line.
-fn vertex(x: f64, y: f64, cost: u64) -> String {
-    floats(&[x, y]) + &zeros(6) + &word(cost)
+fn vertex(x: f64, y: f64, cost: u64, number: u64) -> String {
+    floats(&[x, y]) + &zeros(6) + &word(cost) + &word(number)
 }
 
 /// Nine places on a state line.
 fn simplex(vertices: &[String]) -> String {
-    vertices.concat() + &zeros(9 * (9 - vertices.len()))
+    vertices.concat() + &zeros(10 * (9 - vertices.len()))
 }
 
 /// What a state line shows behind the opening's words.
@@ -64,9 +64,9 @@ fn check(costs: &[u64], first: [u64; 10], best: &str, standing: &[String], gathe
 
 #[test]
 fn states_of_the_first_build() {
-    let thirty = vertex(0.0, 0.0, 30);
-    let twenty = vertex(1.0, 0.0, 20);
-    check(&[], [0; 10], &zeros(9), &[], &[]);
+    let thirty = vertex(0.0, 0.0, 30, 1);
+    let twenty = vertex(1.0, 0.0, 20, 2);
+    check(&[], [0; 10], &zeros(10), &[], &[]);
     let one = [thirty.clone()];
     check(&[30], [0, 1, 1, 0, 0, 0, 0, 0, 0, 0], &thirty, &[], &one);
     let two = [twenty.clone(), thirty];
@@ -76,23 +76,26 @@ fn states_of_the_first_build() {
 
 #[test]
 fn states_of_the_example() {
-    let ten = vertex(0.0, 1.0, 10);
-    let built = [ten.clone(), vertex(1.0, 0.0, 20), vertex(0.0, 0.0, 30)];
-    let standing = |costs: &[u64], first, best: &str| check(costs, first, best, &built, &[]);
+    let ten = vertex(0.0, 1.0, 10, 3);
+    let twenty = vertex(1.0, 0.0, 20, 2);
+    let built = [ten.clone(), twenty.clone(), vertex(0.0, 0.0, 30, 1)];
     let p1 = [30, 20, 10];
-    standing(&p1, [1, 0, 3, 1, 0, 0, 0, 0, 0, 0], &ten);
-    let five = vertex(1.0, 1.0, 5);
-    let p3 = [30, 20, 10, 5];
-    standing(&p3, [2, 5, 4, 1, 0, 0, 0, 0, 0, 1], &five);
-    let p6 = [30, 20, 10, 20];
-    standing(&p6, [3, 20, 4, 1, 0, 0, 0, 0, 0, 1], &ten);
-    let p9 = [30, 20, 10, 31];
-    standing(&p9, [4, 31, 4, 1, 0, 0, 0, 0, 0, 1], &ten);
+    check(&p1, [1, 0, 3, 1, 0, 0, 0, 0, 0, 0], &ten, &built, &[]);
+    for (phase, fr) in [(2, 5), (3, 20), (4, 31)] {
+        let r = [vertex(1.0, 1.0, fr, 4)];
+        let best = if fr == 5 { &r[0] } else { &ten };
+        let first = [phase, 0, 4, 1, 0, 0, 0, 0, 0, 1];
+        check(&[30, 20, 10, fr], first, best, &built, &r);
+    }
+    let five = vertex(1.0, 1.0, 5, 4);
+    let taken = [five.clone(), ten.clone(), twenty];
+    let p4 = [30, 20, 10, 5, 5];
+    check(&p4, [1, 0, 5, 1, 0, 1, 0, 0, 0, 0], &five, &taken, &[]);
     let kept = [ten.clone()];
     let p10 = [30, 20, 10, 31, 30];
     let first = [5, 1, 5, 1, 0, 0, 0, 0, 0, 2];
     check(&p10, first, &ten, &built, &kept);
-    let two = [ten.clone(), vertex(0.5, 0.5, 40)];
+    let two = [ten.clone(), vertex(0.5, 0.5, 40, 6)];
     let shrinking = [30, 20, 10, 31, 30, 40];
     let first = [5, 2, 6, 1, 0, 0, 0, 0, 0, 3];
     check(&shrinking, first, &ten, &built, &two);
@@ -101,11 +104,11 @@ fn states_of_the_example() {
 #[test]
 fn states_of_a_probe_round() {
     let flat = [
-        vertex(0.0, 0.0, 7),
-        vertex(1.0, 0.0, 7),
-        vertex(0.0, 1.0, 7),
+        vertex(0.0, 0.0, 7, 1),
+        vertex(1.0, 0.0, 7, 2),
+        vertex(0.0, 1.0, 7, 3),
     ];
-    let b = vertex(0.0, 0.0, 7);
+    let b = vertex(0.0, 0.0, 7, 1);
     let round = |costs: &[u64], first| check(costs, first, &b, &flat, &[]);
     round(&[7; 3], [6, 0, 3, 1, 0, 0, 0, 0, 0, 0]);
     round(&[7; 5], [6, 2, 5, 1, 0, 0, 0, 0, 2, 0]);
@@ -115,13 +118,13 @@ fn states_of_a_probe_round() {
 #[test]
 fn states_of_a_restart() {
     let d = 0.0009765625;
-    let lower = vertex(d, 0.0, 6);
+    let lower = vertex(d, 0.0, 6, 4);
     let standing = [
-        vertex(0.0, 0.0, 7),
-        vertex(1.0, 0.0, 7),
-        vertex(0.0, 1.0, 7),
+        vertex(0.0, 0.0, 7, 1),
+        vertex(1.0, 0.0, 7, 2),
+        vertex(0.0, 1.0, 7, 3),
     ];
-    let gathered = [lower.clone(), vertex(1.0 + d, 0.0, 9)];
+    let gathered = [lower.clone(), vertex(1.0 + d, 0.0, 9, 5)];
     let mut shown = Shown {
         first: [0, 1, 4, 1, 0, 0, 0, 0, 1, 0],
         best: &lower,
@@ -144,11 +147,14 @@ fn word_of(script: &str, index: usize) -> String {
 #[test]
 fn every_part_is_written() {
     let value = 0x0123_4567_89ab_cdef;
-    let plain = [(0, 0, 0), (1, 0, 7), (2, 0, 42), (7, 0, 58)];
+    let plain = [(0, 0, 0), (1, 0, 7), (2, 0, 42), (7, 0, 58), (13, 0, 59)];
     let counts = (1..=7).map(|which| (3, which, 42 + which as usize));
-    let phases = [0, 2, 3, 4, 5, 6].map(|phase| (4, phase, 41));
-    let standing = (1..=9).map(|place| (5, place, 66 + 9 * place as usize));
-    let gathered = (1..=9).map(|place| (6, place, 147 + 9 * place as usize));
+    let phases = [0, 5, 6].map(|phase| (4, phase, 41));
+    let places = (1..=9).map(|place| (place, 10 * place as usize));
+    let standing = places
+        .clone()
+        .flat_map(|(p, at)| [(5, p, 66 + at), (11, p, 67 + at)]);
+    let gathered = places.flat_map(|(p, at)| [(6, p, 156 + at), (12, p, 157 + at)]);
     let rules = [(8, 1, 2), (8, 2, 2), (8, 3, 2)];
     let low = (1..=8).map(|axis| (9, axis, 4 + 4 * axis as usize));
     let high = (1..=8).map(|axis| (10, axis, 5 + 4 * axis as usize));
@@ -165,7 +171,7 @@ fn every_part_is_written() {
 
 #[test]
 fn phases_without_a_detail() {
-    for phase in [1, 7, 8] {
+    for phase in [1, 2, 3, 4, 7, 8] {
         let script = example(&[30, 20, 10, 5]) + &write(4, phase, 9);
         assert_eq!(word_of(&script, 40), word(phase).trim());
         assert_eq!(word_of(&script, 41), word(0).trim());
@@ -208,9 +214,9 @@ fn a_nan_has_one_word() {
     let asked = word(0) + &word(1) + &shown + &zeros(7) + &word(1);
     assert_eq!(last_line(&(script.clone() + "a\n")), format!("a{asked}"));
     let script = script + &tell(1, 7);
-    let best = word(0) + &shown + &zeros(7) + &word(7);
+    let best = word(0) + &shown + &zeros(7) + &word(7) + &word(1);
     assert_eq!(last_line(&(script.clone() + "b\n")), format!("b{best}"));
-    for at in [50, 147 + 1] {
+    for at in [50, 158] {
         assert_eq!(word_of(&script, at), shown.trim());
     }
 }

@@ -11,7 +11,13 @@ fn printed(input: &str) -> String {
 
 /// What is printed for the example's opening and costs.
 fn after_opening(costs: &str) -> String {
-    printed(&format!("{OPENING}{costs}"))
+    after_opening_of(4, costs)
+}
+
+/// The same with another budget.
+fn after_opening_of(budget: u64, costs: &str) -> String {
+    let axis = &OPENING["1 4 1\n".len()..];
+    printed(&format!("1 {budget} 1\n{axis}{costs}"))
 }
 
 #[test]
@@ -21,7 +27,7 @@ fn example_of_document_01() {
 2 3ff0000000000000 6
 3 bff0000000000000 4
 4 bfe0000000000000 4
-end budget 0000000000000000 4
+end budget 0000000000000000 4 1
 ";
     assert_eq!(after_opening("4\n6\n4\n4\n"), expected);
 }
@@ -37,8 +43,35 @@ fn stopping_early_waits() {
     assert_eq!(after_opening(""), "end waiting\n");
     assert_eq!(
         after_opening("4\n"),
-        "1 0000000000000000 4\nend waiting 0000000000000000 4\n"
+        "1 0000000000000000 4\nend waiting 0000000000000000 4 1\n"
     );
+}
+
+/// The last line of what is printed for the example's opening, with more budget, and costs.
+fn end(costs: &str) -> String {
+    let text = after_opening_of(100, costs);
+    text.lines().last().expect("a line").to_string()
+}
+
+#[test]
+fn the_end_names_the_reading_of_the_best() {
+    assert_eq!(end("9\n"), "end waiting 0000000000000000 9 1");
+    assert_eq!(end("90\n40\n"), "end waiting 3ff0000000000000 40 2");
+    // An equal reading, and a higher one, leave it.
+    assert_eq!(end("90\n40\n40\n"), "end waiting 3ff0000000000000 40 2");
+    assert_eq!(end("90\n40\n70\n"), "end waiting 3ff0000000000000 40 2");
+    assert_eq!(end("90\n40\n7\n9\n"), "end waiting 4000000000000000 7 3");
+}
+
+#[test]
+fn the_number_has_as_many_digits_as_it_needs() {
+    let costs: String = (0..12).map(|k| format!("{}\n", 5000 - 400 * k)).collect();
+    let text = after_opening_of(12, &costs);
+    let [.., reading, end] = text.lines().collect::<Vec<_>>()[..] else {
+        panic!("{text}");
+    };
+    let best = reading.strip_prefix("12 ").expect("the last reading");
+    assert_eq!(end, format!("end budget {best} 12"));
 }
 
 #[test]
@@ -61,7 +94,7 @@ fn two_axes_settle_and_leave_the_rest_unread() {
 5 bf50000000000000 0000000000000000 7
 6 0000000000000000 3f50000000000000 7
 7 0000000000000000 bf50000000000000 7
-end settled 0000000000000000 0000000000000000 7
+end settled 0000000000000000 0000000000000000 7 1
 ";
     assert_eq!(printed(&input), expected);
 }
@@ -169,7 +202,7 @@ fn input_of_at_most_65536_bytes() {
     let mut input = format!("{OPENING}4\n6\n4\n4\n").into_bytes();
     input.resize(65_536, b'4');
     let text = rival::tune::transcript(&input);
-    assert!(text.ends_with(b"end budget 0000000000000000 4\n"));
+    assert!(text.ends_with(b"end budget 0000000000000000 4 1\n"));
     input.push(b'\n');
     assert_eq!(rival::tune::transcript(&input), b"bad 0\n");
 }

@@ -68,6 +68,7 @@ fn put_best(out: &mut Vec<u8>, search: &Search) {
     put_word(out, verdict);
     put_point(out, &best.point);
     put_word(out, best.cost);
+    put_word(out, best.number);
 }
 
 /// Writes a part; there is no verdict.

@@ -44,9 +44,9 @@ fn limit(search: &Search, seed: &mut u64) -> u64 {
 /// Writes some part, put back in most cases where calls are then refused with 12.
 fn write_any(search: &mut Search, seed: &mut u64) {
     let before = search.clone();
-    let part = next(seed) % 11;
-    let most = [0, 0, 0, 7, 8, 9, 9, 0, 3, 8, 8][part as usize];
-    let from_1 = ![0, 1, 2, 4, 7].contains(&part);
+    let part = next(seed) % 14;
+    let most = [0, 0, 0, 7, 8, 9, 9, 0, 3, 8, 8, 9, 9, 0][part as usize];
+    let from_1 = ![0, 1, 2, 4, 7, 13].contains(&part);
     let which = u64::from(from_1).max(next(seed) % (most + 1));
     let value = match part {
         9 | 10 => limit(search, seed),
@@ -71,7 +71,11 @@ fn tell_any(search: &mut Search, seed: &mut u64) {
     write(&mut anew, (1, 0, search.budget));
     assert_eq!(anew.words(), before);
     assert_eq!(asked(&anew), asked(search));
-    let best = |search: &Search| search.best().map(|best| (bits(&best.point), best.cost));
+    let best = |search: &Search| {
+        search
+            .best()
+            .map(|best| (bits(&best.point), best.cost, best.number))
+    };
     assert_eq!(best(&anew), best(search));
     let reading = search.readings.wrapping_add(1);
     let cost = next(seed) % 24;

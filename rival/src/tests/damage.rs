@@ -104,13 +104,33 @@ fn thresholds() {
 fn vertices_of_a_build() {
     assert_refused(building(), (4, 0, 3), (4, 0, 2));
     assert_refused(building(), (4, 0, u64::MAX), (4, 0, 2));
-    assert_accepted(building(), (4, 0, 0));
+    assert_refused(building(), (4, 0, 0), (4, 0, 2));
     assert_accepted(building(), (4, 0, 1));
-    // A finished build stands behind these.
     assert_refused(reflecting(), (4, 0, 0), (4, 1, 0));
     assert_refused(reflecting(), (4, 0, 3), (4, 1, 0));
     assert_accepted(reflecting(), (4, 0, 1));
     assert_accepted(reflecting(), (4, 0, 2));
+}
+
+/// A build without a vertex is sound only where no reading is told, however many builds are finished.
+#[test]
+fn a_build_without_a_vertex() {
+    for builds in [0, 5] {
+        let mut search = example();
+        write(&mut search, (3, 1, builds));
+        for readings in [1, 2, 99] {
+            assert_refused(search.clone(), (2, 0, readings), (2, 0, 0));
+        }
+        tell_all(&mut search, &[30]);
+        assert_counts(&search, [builds, 0, 0, 0, 0, 0, 0]);
+        assert_refused(search.clone(), (4, 0, 0), (4, 0, 1));
+        write(&mut search, (2, 0, 0));
+        write(&mut search, (4, 0, 0));
+        tell_all(&mut search, &[20]);
+        assert_counts(&search, [builds, 0, 0, 0, 0, 0, 0]);
+        tell_all(&mut search, &[25]);
+        assert_counts(&search, [builds, 0, 0, 0, 0, 0, 1]);
+    }
 }
 
 #[test]
@@ -135,6 +155,41 @@ fn standing_vertices_out_of_cost_order() {
     assert_accepted(reflecting(), (5, 3, 20));
     assert_accepted(reflecting(), (5, 4, 1));
     assert_accepted(building(), (5, 1, 1));
+}
+
+/// Whether a simplex stands is read off the number at place 1, not off the count of builds.
+#[test]
+fn standing_vertices_without_a_number() {
+    for builds in [0, 1, 5] {
+        let mut search = probing();
+        write(&mut search, (3, 1, builds));
+        write(&mut search, (11, 1, 0));
+        // Costs 7, 6, 7: out of order, and not looked at.
+        assert_accepted(search.clone(), (5, 2, 6));
+        write(&mut search, (5, 2, 6));
+        for number in [1, 4, 1 << 32, u64::MAX] {
+            assert_refused(search.clone(), (11, 1, number), (11, 1, 0));
+        }
+        // The numbers of the other places say nothing.
+        assert_accepted(search.clone(), (11, 2, 0));
+        assert_accepted(search.clone(), (11, 3, u64::MAX));
+        write(&mut search, (5, 2, 7));
+        assert_accepted(search, (11, 1, 1));
+    }
+}
+
+/// No number is tested.
+#[test]
+fn numbers_are_not_tested() {
+    for search in [building(), reflecting(), shrinking(), probing()] {
+        for number in [0, 1, search.readings, search.readings + 1, 100, u64::MAX] {
+            for place in 1..=9 {
+                assert_accepted(search.clone(), (11, place, number));
+                assert_accepted(search.clone(), (12, place, number));
+            }
+            assert_accepted(search.clone(), (13, 0, number));
+        }
+    }
 }
 
 #[test]
@@ -174,9 +229,12 @@ fn costs_of_r() {
     for (phase, told) in [(2, 5), (3, 20), (4, 30)] {
         let search = after(reflecting(), &[told]);
         for fr in [16_777_216, u64::MAX] {
-            assert_refused(search.clone(), (4, phase, fr), (4, phase, told));
+            assert_refused(search.clone(), (6, 1, fr), (6, 1, told));
         }
-        assert_accepted(search, (4, phase, 16_777_215));
+        assert_accepted(search.clone(), (6, 1, 16_777_215));
+        // No value is read with these phases.
+        assert_accepted(search.clone(), (4, phase, u64::MAX));
+        assert_eq!(search.words()[40..42], [phase, 0]);
     }
     assert_accepted(reflecting(), (4, 1, u64::MAX));
 }

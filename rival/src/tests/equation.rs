@@ -1,7 +1,9 @@
-//! Long runs on made-up costs: no refusal 12, limits kept, and every reading found in a count.
+//! Long runs on made-up costs: no refusal 12, limits kept, every reading found in a count, and every vertex found among the readings.
 
 use super::*;
-use crate::types::{Rule, MAX_COST};
+use crate::search::Phase;
+use crate::simplex::Simplex;
+use crate::types::{Rule, Vertex, MAX_COST};
 
 /// A made-up cost, of a kind that the seed chose.
 fn made_up(kind: u64, point: &Point, seed: &mut u64) -> u64 {
@@ -24,27 +26,59 @@ fn accounted(search: &Search) -> u64 {
     1 + n * builds + iterations + probes + open
 }
 
-/// Asserts what holds after every tell.
+/// Asserts that the first so many vertices are the readings of their numbers, and that the other places are blank.
 #[track_caller]
-fn assert_holds(search: &Search, least: u64) {
+fn assert_read(simplex: &Simplex, vertices: usize, told: &[Vertex]) {
+    for index in 0..9 {
+        let vertex = simplex.vertex(index);
+        let wanted = match index < vertices {
+            true => told[vertex.number as usize - 1],
+            false => Vertex::ZERO,
+        };
+        assert_eq!(bits(&vertex.point), bits(&wanted.point));
+        assert_eq!((vertex.cost, vertex.number), (wanted.cost, wanted.number));
+    }
+}
+
+/// The vertices that are gathered.
+fn gathered(search: &Search) -> usize {
+    match search.phase {
+        Phase::Building | Phase::Shrinking => search.vertices,
+        Phase::Expanding | Phase::Contracting(_) => 1,
+        Phase::Ended(_) => 9 - search.gathered.numbers.iter().filter(|k| **k == 0).count(),
+        _ => 0,
+    }
+}
+
+/// Asserts what holds after every tell of a list.
+#[track_caller]
+fn assert_holds(search: &Search, told: &[Vertex]) {
     assert_eq!(accounted(search), search.readings);
     assert!(search.ask().is_ok() || search.has_ended());
-    assert_eq!(search.best().expect("best").cost, least);
+    let stands = search.counts.builds > 0;
+    assert_read(&search.standing, usize::from(stands) * (search.n + 1), told);
+    assert_read(&search.gathered, gathered(search), told);
+    let least = told.iter().min_by_key(|reading| reading.cost);
+    assert_eq!(Some(&search.best().expect("best")), least);
 }
 
 /// Runs one search to its end.
 fn run(n: u64, rule: Rule, kind: u64, seed: &mut u64) -> Search {
     let mut search = open(n, USUAL_AXIS, rule, 2000);
-    let mut least = u64::MAX;
+    let mut told = Vec::new();
     while !search.has_ended() {
         let trial = search.ask().expect("ask");
         let n = n as usize;
         assert!(trial.point[..n].iter().all(|x| (-8.0..=8.0).contains(x)));
         assert_eq!(bits(&trial.point[n..]), vec![0; 8 - n]);
         let cost = made_up(kind, &trial.point, seed);
-        least = least.min(cost);
+        told.push(Vertex {
+            point: trial.point,
+            cost,
+            number: trial.number,
+        });
         search.tell(trial.number, cost).expect("tell");
-        assert_holds(&search, least);
+        assert_holds(&search, &told);
     }
     search
 }

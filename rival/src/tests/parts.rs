@@ -27,12 +27,21 @@ fn three_axes() -> Search {
 fn words_that_name_no_part() {
     let mut search = after_p1(&[]);
     let before = format!("{search:?}");
-    for (part, most) in [(0, 0), (1, 0), (2, 0), (4, 8), (7, 0)] {
+    for (part, most) in [(0, 0), (1, 0), (2, 0), (4, 8), (7, 0), (13, 0)] {
         assert!(!search.write_part(part, most + 1, 0));
         assert!(!search.write_part(part, u64::MAX, 0));
     }
-    let counted = [(3, 7), (5, 9), (6, 9), (8, 3), (9, 8), (10, 8)];
-    for (part, most) in counted.into_iter().chain([(11, 0), (u64::MAX, 0)]) {
+    let counted = [
+        (3, 7),
+        (5, 9),
+        (6, 9),
+        (8, 3),
+        (9, 8),
+        (10, 8),
+        (11, 9),
+        (12, 9),
+    ];
+    for (part, most) in counted.into_iter().chain([(14, 0), (u64::MAX, 0)]) {
         assert!(!search.write_part(part, 0, 0));
         assert!(!search.write_part(part, most + 1, 0));
         assert!(!search.write_part(part, (1 << 32) + 1, 0));
@@ -43,14 +52,14 @@ fn words_that_name_no_part() {
 #[test]
 fn every_part_is_shown() {
     let mut search = Search::closed();
-    let mut expected = vec![0; 229];
+    let mut expected = vec![0; 248];
     expected[1] = 1;
     expected[40] = 8;
     assert_eq!(search.words(), expected);
-    let parts = [(0, 0, 0), (1, 0, 7), (2, 0, 42), (7, 0, 58)];
+    let parts = [(0, 0, 0), (1, 0, 7), (2, 0, 42), (7, 0, 58), (13, 0, 59)];
     let counts = (1..=7).map(|which| (3, which, 42 + which));
-    let standing = (1..=9).map(|place| (5, place, 66 + 9 * place));
-    let gathered = (1..=9).map(|place| (6, place, 147 + 9 * place));
+    let standing = (1..=9).flat_map(|p| [(5, p, 66 + 10 * p), (11, p, 67 + 10 * p)]);
+    let gathered = (1..=9).flat_map(|p| [(6, p, 156 + 10 * p), (12, p, 157 + 10 * p)]);
     let low = (1..=8).map(|axis| (9, axis, 4 + 4 * axis));
     let high = (1..=8).map(|axis| (10, axis, 5 + 4 * axis));
     let all = parts.into_iter().chain(counts).chain(standing);
@@ -67,7 +76,7 @@ fn phases_and_rules_are_shown() {
     let mut search = after_p1(&[]);
     for phase in 0..=8 {
         write(&mut search, (4, phase, u64::MAX));
-        let detail = [u64::MAX, 0][usize::from([1, 7, 8].contains(&phase))];
+        let detail = [0, u64::MAX][usize::from([0, 5, 6].contains(&phase))];
         assert_eq!(search.words()[40..42], [phase, detail]);
     }
     for rule in 1..=3 {
@@ -90,16 +99,6 @@ fn moves_without_a_build_read_zeros() {
     tell_all(&mut search, &[1, 2]);
     assert_counts(&search, [0, 0, 0, 0, 1, 0, 0]);
     assert_eq!(search.standing.costs[..4], [0, 1, 2, 0]);
-}
-
-#[test]
-fn r_is_found_again_for_an_expansion() {
-    let mut search = after_p1(&[]);
-    write(&mut search, (4, 2, 5));
-    assert_trial(&search, 4, &[1.5, 1.5]);
-    tell_all(&mut search, &[5]);
-    assert_place(&search, 1, &[1.0, 1.0], 5);
-    assert_counts(&search, [1, 0, 1, 0, 0, 0, 0]);
 }
 
 #[test]
@@ -203,6 +202,8 @@ fn probes_leave_open_as_it_is() {
 fn gathered_places_past_the_newcomer_are_zeros() {
     let mut search = after(example(), &[30, 20]);
     write(&mut search, (6, 9, 4));
+    write(&mut search, (12, 8, 4));
+    write(&mut search, (2, 0, 0));
     write(&mut search, (4, 0, 0));
     tell_all(&mut search, &[25]);
     assert_counts(&search, [0, 0, 0, 0, 0, 0, 1]);
@@ -211,6 +212,7 @@ fn gathered_places_past_the_newcomer_are_zeros() {
         0,
         &Vertex {
             cost: 25,
+            number: 1,
             ..Vertex::ZERO
         },
     );

@@ -277,7 +277,8 @@ fn r_is_found_again_between_written_limits() {
     // r is (1,1), and 3/4 on axis 1 from here on; e starts from there and is within.
     let mut search = written(&[30, 20, 10, 5], &[(10, 1, 0.75)]);
     assert_stops(&search, 1, &[0.75, 1.5]);
-    write(&mut search, (4, 3, 20));
+    write(&mut search, (4, 3, 0));
+    write(&mut search, (6, 1, 20));
     assert_stops(&search, 0, &[0.625, 0.75]);
     tell_all(&mut search, &[19]);
     assert_place(&search, 2, &[0.625, 0.75], 19);
