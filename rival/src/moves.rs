@@ -18,11 +18,11 @@ impl Search {
         match self.phase {
             Phase::Building => self.build_trial(self.vertices),
             Phase::Reflecting => self.reflection(),
-            Phase::Expanding => self.from_centroid(k.chi, &self.reflection().point),
+            Phase::Expanding => self.off_centroid(k.chi, &self.reflection().point),
             Phase::Contracting(Side::Outside) => {
-                self.from_centroid(k.beta, &self.reflection().point)
+                self.off_centroid(k.beta, &self.reflection().point)
             }
-            Phase::Contracting(Side::Inside) => self.from_centroid(k.beta, self.worst()),
+            Phase::Contracting(Side::Inside) => self.off_centroid(k.beta, self.worst()),
             Phase::Shrinking => self.shrunk_trial(self.vertices),
             Phase::Probing(told) => self.probe_trial(told),
             Phase::Ended(_) => Clamped::ORIGIN,
@@ -52,7 +52,7 @@ impl Search {
     }
 
     /// c + factor·(tip − c), clamped.
-    fn from_centroid(&self, factor: f64, tip: &[f64]) -> Clamped {
+    fn off_centroid(&self, factor: f64, tip: &[f64]) -> Clamped {
         self.along(&self.centroid, factor, tip, &self.centroid)
     }
 
