@@ -3,10 +3,11 @@
 
 use crate::costs::DARK;
 use crate::openings::{MOST_BUDGET, MOST_SPREAD, SPREAD};
+use crate::orders;
 use crate::state::{State, Written};
 use rival::Search;
 
-pub const CAUSES: [&str; 25] = [
+pub const CAUSES: [&str; 26] = [
     "n below",
     "n above",
     "readings not below the budget",
@@ -20,18 +21,19 @@ pub const CAUSES: [&str; 25] = [
     "budget above 1,000,000",
     "spread E",
     "build number above n",
-    "build number 0 after a build",
+    "build number 0, readings, no build",
+    "build number 0, readings, builds",
     "shrink number 0",
     "shrink number above n",
     "probe number",
     "standing order",
+    "standing order, by its number",
     "gathered order",
     "cost of standing place",
     "cost past the standing ones",
     "cost of gathered place",
     "cost past the gathered ones",
     "best's cost",
-    "phase's cost",
 ];
 
 /// A cause of two parts.
@@ -130,8 +132,8 @@ impl Watch {
     }
 }
 
-/// The part, which of it and the value of a line.
-fn words(line: &[u8]) -> Written {
+/// The part, which of it and the value of a line; of a tell, its number and cost.
+pub fn words(line: &[u8]) -> Written {
     let text = String::from_utf8_lossy(line);
     let mut words = text.split(' ').skip(1);
     std::array::from_fn(|_| {
@@ -166,8 +168,9 @@ fn met(state: &State, line: Written) -> Vec<Met> {
     let at_edges = edges(state, line)
         .into_iter()
         .filter_map(|(name, edge)| edge.past(line[2]).map(|past| (name, past)));
-    let in_order = ordered(state, line).map(|past| match line[0] {
+    let in_order = orders::past(state, line).map(|past| match line[0] {
         5 => ("standing order", past),
+        11 => ("standing order, by its number", past),
         _ => ("gathered order", past),
     });
     let met = |(name, past)| {
@@ -185,7 +188,7 @@ fn edges(state: &State, [part, which, _]: Written) -> Vec<(&'static str, Edge)> 
             (LATE, Edge::Least(state.readings() + 1)),
             ("budget above 1,000,000", Edge::Most(MOST_BUDGET)),
         ],
-        2 => vec![(LATE, Edge::Most(state.budget() - 1))],
+        2 => readings_edges(state),
         3 => vec![(CAUSES[2 + which as usize], Edge::Most(state.budget()))],
         4 => phase_edges(state, which),
         5 | 6 => vec![(held_cost(state, part, which), Edge::Most(DARK))],
@@ -195,12 +198,28 @@ fn edges(state: &State, [part, which, _]: Written) -> Vec<(&'static str, Edge)> 
     }
 }
 
+/// The causes of readings: the first vertex of a build may be told only where they are 0.
+fn readings_edges(state: &State) -> Vec<(&'static str, Edge)> {
+    let mut edges = vec![(LATE, Edge::Most(state.budget() - 1))];
+    if [state.phase(), state.detail()] == [0, 0] {
+        edges.push((without_vertex(state), Edge::Most(0)));
+    }
+    edges
+}
+
+/// The cause of a build without a vertex, whatever the count of builds is.
+fn without_vertex(state: &State) -> &'static str {
+    match state.builds() {
+        0 => "build number 0, readings, no build",
+        _ => "build number 0, readings, builds",
+    }
+}
+
 /// The causes of a phase's detail.
 fn phase_edges(state: &State, phase: u64) -> Vec<(&'static str, Edge)> {
     let n = state.n();
     let mut edges = match phase {
         0 => vec![("build number above n", Edge::Most(n))],
-        2..=4 => vec![("phase's cost", Edge::Most(DARK))],
         5 => vec![
             ("shrink number 0", Edge::Least(1)),
             ("shrink number above n", Edge::Most(n)),
@@ -208,8 +227,8 @@ fn phase_edges(state: &State, phase: u64) -> Vec<(&'static str, Edge)> {
         6 => vec![("probe number", Edge::Most(2 * n - 1))],
         _ => vec![],
     };
-    if phase == 0 && state.builds() > 0 {
-        edges.push(("build number 0 after a build", Edge::Least(1)));
+    if phase == 0 && state.readings() > 0 {
+        edges.push((without_vertex(state), Edge::Least(1)));
     }
     edges
 }
@@ -220,28 +239,7 @@ fn held_cost(state: &State, part: u64, place: u64) -> &'static str {
         5 if place <= state.standing_vertices() => "cost of standing place",
         5 => "cost past the standing ones",
         _ if place <= state.gathered_vertices() => "cost of gathered place",
+        _ if place == 1 && state.holds_r() => "cost of gathered place",
         _ => "cost past the gathered ones",
     }
-}
-
-/// Whether a cost of a place that has to be in order is one past its neighbours', or none if it is equal to neither and not past by one.
-fn ordered(state: &State, [part, place, value]: Written) -> Option<bool> {
-    let held = |place| match part {
-        5 => state.standing(place),
-        _ => state.gathered(place),
-    };
-    let vertices = match part {
-        5 => state.standing_vertices(),
-        6 => state.gathered_vertices(),
-        _ => 0,
-    };
-    if place > vertices || value > DARK {
-        return None;
-    }
-    let below = (place > 1).then(|| held(place - 1));
-    let above = (place < vertices).then(|| held(place + 1));
-    if below.is_some_and(|cost| value + 1 == cost) || above.is_some_and(|cost| value == cost + 1) {
-        return Some(true);
-    }
-    (below == Some(value) || above == Some(value)).then_some(false)
 }

@@ -159,7 +159,7 @@ fn any_way(random: &mut Random, state: &State) -> u64 {
     let n = state.n();
     let lower = lower(random, state);
     let (last, worst) = (state.standing(n), state.standing(n + 1));
-    let held = state.detail();
+    let held = state.gathered(1);
     match state.phase() {
         1 => random.pick(&[lower, state.standing(1), last, last, worst, worst]),
         2 => random.pick(&[lower, held]),

@@ -1,7 +1,9 @@
 //! What a run covered, counted in the scripts and their transcripts.
 
 use crate::causes::{Causes, Watch};
+use crate::ends::{self, Ends};
 use crate::stops::{Origin, Stops};
+use crate::traces::{Tracer, Traces};
 use rival::replay::Replay;
 
 /// Calls of one kind.
@@ -54,6 +56,7 @@ pub struct Coverage {
     pub malformed_parts: u64,
     pub causes: Causes,
     pub stops: Stops,
+    pub traces: Traces,
     /// `s` lines of opened searches by phase, while no part is written.
     pub phases: [u64; 9],
     /// Searches that were last shown ended, settled and by the budget.
@@ -66,6 +69,8 @@ pub struct Coverage {
     pub text_readings: u64,
     /// Texts that end settled, by the budget or waiting.
     pub text_ends: [u64; 3],
+    /// Texts whose last line names a reading, by which.
+    pub text_named: Ends,
     /// Texts that end with a refusal, by number.
     pub text_refusals: [u64; 13],
     /// Texts that end with `bad 0`, and with another `bad`.
@@ -90,6 +95,7 @@ impl Coverage {
         let mut replay = Replay::default();
         let mut watch = Watch::default();
         let mut origin = Origin::default();
+        let mut tracer = Tracer::default();
         let answers = transcript.split(|b| *b == b'\n');
         for (line, answer) in script.split(|b| *b == b'\n').zip(answers) {
             if line.is_empty() || line.first() != answer.first() {
@@ -98,6 +104,7 @@ impl Coverage {
             }
             let verdict = word(answer, 0);
             watch.see(line, verdict, replay.search(), &mut self.causes);
+            tracer.see(line, verdict, replay.search(), &mut self.traces);
             origin.see(line);
             if line == b"a" && verdict == 0 {
                 origin.count(replay.search(), word(answer, 10), &mut self.stops);
@@ -168,6 +175,7 @@ impl Coverage {
     pub fn add_text(&mut self, transcript: &[u8]) {
         self.texts += 1;
         let transcript = String::from_utf8_lossy(transcript);
+        ends::count(&transcript, &mut self.text_named);
         let is_reading = |line: &&str| line.starts_with(|c: char| c.is_ascii_digit());
         self.text_readings += transcript.lines().filter(is_reading).count() as u64;
         let last: Vec<&str> = transcript.lines().last().unwrap_or("").split(' ').collect();
@@ -201,6 +209,7 @@ impl Coverage {
         self.malformed_parts += other.malformed_parts;
         self.causes.join(&other.causes);
         self.stops.join(&other.stops);
+        self.traces.join(&other.traces);
         add_all(&mut self.phases, &other.phases);
         add_all(&mut self.endings, &other.endings);
         add_all(&mut self.pieces, &other.pieces);
@@ -212,6 +221,7 @@ impl Coverage {
         self.texts += other.texts;
         self.text_readings += other.text_readings;
         add_all(&mut self.text_ends, &other.text_ends);
+        add_all(&mut self.text_named, &other.text_named);
         add_all(&mut self.text_refusals, &other.text_refusals);
         add_all(&mut self.text_bad, &other.text_bad);
     }

@@ -21,7 +21,7 @@ const NANS: [u64; 4] = [
 pub fn episode(script: &mut Script, random: &mut Random, costs: &mut Costs) {
     let state = script.state();
     if random.one_in(2) && script.goes_on() {
-        script.write(mild::phase(random, &state));
+        mild::enter(script, random);
         if !script.goes_on() {
             script.write(state.undoing([4, 0, 0]));
         }

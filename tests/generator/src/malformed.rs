@@ -88,7 +88,10 @@ fn other_part(random: &mut Random, text: &mut Vec<u8>) {
         (8, 3),
         (9, 8),
         (10, 8),
-        (11, 0),
+        (11, 9),
+        (12, 9),
+        (13, 0),
+        (14, 0),
     ];
     let (part, most): (u64, u64) = random.pick(&edges);
     let huge = random.pick(&[u64::MAX, 1 << 32, (1 << 32) + most, 1 << 63]);

@@ -1,11 +1,13 @@
 //! Lines that write one part of a search, after which most searches go on.
 
 use crate::costs::DARK;
+use crate::numbers;
 use crate::random::Random;
+use crate::script::Script;
 use crate::state::{State, Written};
 use crate::writes::{about, limit, threshold, Draw};
 
-const MILD: [Draw; 11] = [
+const MILD: [Draw; 16] = [
     other_axes,
     other_axes,
     phase,
@@ -17,6 +19,11 @@ const MILD: [Draw; 11] = [
     mild_cost,
     threshold,
     limit,
+    held_cost,
+    held_cost,
+    numbers::standing,
+    numbers::gathered,
+    numbers::best,
 ];
 
 /// A line after which most searches go on.
@@ -28,19 +35,37 @@ fn other_axes(random: &mut Random, _: &State) -> Written {
     [0, 0, random.between(1, 8)]
 }
 
-/// Any phase, with a detail that it may have.
+/// Any phase written; where r is held in it, most often with a cost for r, and at times with a number.
+pub fn enter(script: &mut Script, random: &mut Random) {
+    let state = script.state();
+    script.write(phase(random, &state));
+    if script.state().holds_r() && !random.one_in(4) {
+        script.write(held_cost(random, &state));
+        if random.one_in(2) {
+            script.write(numbers::held(random, &state));
+        }
+    }
+}
+
+/// Any phase, with a detail that it may have, or with one that is not read.
 pub fn phase(random: &mut Random, state: &State) -> Written {
     let n = state.n().clamp(1, 8);
-    let least = u64::from(state.builds() > 0);
-    let held = state.standing(random.between(1, n + 1));
-    let cost = about(random, held).min(DARK);
+    let least = u64::from(state.readings() > 0);
+    let any = random.next();
+    let unread = random.pick(&[0, 1, DARK + 1, any]);
     match random.below(8) {
         0 | 1 => [4, 0, random.between(least, n)],
         2 => [4, 1, 0],
         3 => [4, 6, random.below(2 * n)],
         4 => [4, 5, random.between(1, n)],
-        phase => [4, phase - 3, cost],
+        phase => [4, phase - 3, unread],
     }
+}
+
+/// A cost at the first gathered place, about one that stands.
+fn held_cost(random: &mut Random, state: &State) -> Written {
+    let held = state.standing(random.between(1, state.n().clamp(1, 8) + 1));
+    [6, 1, about(random, held).min(DARK)]
 }
 
 fn mild_count(random: &mut Random, state: &State) -> Written {

@@ -3,8 +3,10 @@
 use crate::costs::Costs;
 use crate::courses;
 use crate::episodes;
+use crate::held;
 use crate::limits;
 use crate::mild;
+use crate::numbers;
 use crate::openings;
 use crate::random::Random;
 use crate::script::{Script, LIMIT};
@@ -86,12 +88,15 @@ fn measure(script: &mut Script, random: &mut Random, costs: &mut Costs) {
 }
 
 fn episode(script: &mut Script, random: &mut Random, costs: &mut Costs) {
-    match random.below(18) {
+    match random.below(24) {
         0 | 1 => several(script, random, costs),
         2..=4 => going_on(script, random, costs),
         5 => episodes::outside_the_limits(script, random),
         6 => episodes::at_a_threshold(script, random),
         7..=10 => limits::episode(script, random, costs),
+        11 | 12 => held::episode(script, random),
+        13 | 14 => numbers::order(script, random),
+        15 => numbers::first_vertex(script, random),
         _ => {
             let line = writes::at_an_edge(random, &script.state());
             written(script, random, costs, line);
@@ -184,8 +189,7 @@ fn after_the_end(script: &mut Script, random: &mut Random) {
         let more = random.between(1, 300);
         script.write([2, 0, told]);
         script.write([1, 0, told + more]);
-        let state = script.state();
-        script.write(mild::phase(random, &state));
+        mild::enter(script, random);
     }
 }
 
@@ -217,8 +221,7 @@ fn closed(script: &mut Script, random: &mut Random) {
     script.write([0, 0, n]);
     script.write([1, 0, random.between(1, 40)]);
     script.write([2, 0, 0]);
-    let state = script.state();
-    script.write(mild::phase(random, &state));
+    mild::enter(script, random);
     for number in 1..random.between(2, 20) {
         script.ask();
         script.best();

@@ -52,24 +52,47 @@ impl State {
         self.0[58]
     }
 
+    pub fn best_number(&self) -> u64 {
+        self.0[59]
+    }
+
     /// The cost at a place of the standing simplex, from 1.
     pub fn standing(&self, place: u64) -> u64 {
-        self.0[66 + 9 * place as usize]
+        self.0[66 + 10 * place as usize]
+    }
+
+    /// The number of the reading that gave it.
+    pub fn standing_number(&self, place: u64) -> u64 {
+        self.0[67 + 10 * place as usize]
     }
 
     /// The coordinates' bits there.
     pub fn standing_point(&self, place: u64) -> &[u64] {
-        let cost = 66 + 9 * place as usize;
+        let cost = 66 + 10 * place as usize;
         &self.0[cost - 8..cost]
     }
 
     pub fn gathered(&self, place: u64) -> u64 {
-        self.0[147 + 9 * place as usize]
+        self.0[156 + 10 * place as usize]
+    }
+
+    pub fn gathered_number(&self, place: u64) -> u64 {
+        self.0[157 + 10 * place as usize]
+    }
+
+    pub fn gathered_point(&self, place: u64) -> &[u64] {
+        let cost = 156 + 10 * place as usize;
+        &self.0[cost - 8..cost]
+    }
+
+    /// Whether e or a contraction is asked, and so r held at the first gathered place.
+    pub fn holds_r(&self) -> bool {
+        (2..=4).contains(&self.phase())
     }
 
     /// How many standing vertices have to be in cost order.
     pub fn standing_vertices(&self) -> u64 {
-        match self.builds() {
+        match self.standing_number(1) {
             0 => 0,
             _ => self.n().saturating_add(1).min(9),
         }
@@ -97,14 +120,23 @@ impl State {
             7 => [7, 0, self.best()],
             9 => [9, which, self.limits(which)[0]],
             10 => [10, which, self.limits(which)[1]],
+            11 => [11, which, self.standing_number(which)],
+            12 => [12, which, self.gathered_number(which)],
+            13 => [13, 0, self.best_number()],
             _ => [8, self.0[1], self.0[2]],
         }
     }
 
-    /// Whether the calls' answers are fixed: no iteration without a build is under way over places out of cost order.
+    /// The most by which the cost at one of places 1 to n is above that of the next.
+    pub fn standing_fall(&self) -> i128 {
+        let fall = |i| i128::from(self.standing(i)) - i128::from(self.standing(i + 1));
+        (1..=self.n().min(8)).map(fall).max().unwrap_or(0)
+    }
+
+    /// Whether the calls' answers are fixed: no iteration is under way over places out of cost order, with no number at place 1.
     pub fn is_fixed(&self) -> bool {
-        let unbuilt = self.builds() == 0 && (1..=5).contains(&self.phase());
-        !unbuilt || (1..=self.n().min(8)).all(|i| self.standing(i) <= self.standing(i + 1))
+        let unread = self.standing_number(1) == 0 && (1..=5).contains(&self.phase());
+        !unread || self.standing_fall() <= 0
     }
 }
 

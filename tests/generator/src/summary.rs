@@ -3,11 +3,12 @@
 use crate::causes::{Causes, CALLS, CAUSES};
 use crate::coverage::{Coverage, ENDS};
 use crate::stops::{Stops, ORIGINS};
+use crate::trace_summary;
 
 const LEAST_TELLS: u64 = 200_000;
 const LEAST_TEXTS: u64 = 2_000;
 
-const PHASES: [&str; 9] = [
+pub const PHASES: [&str; 9] = [
     "building",
     "reflecting",
     "expanding",
@@ -49,6 +50,7 @@ pub fn print(c: &Coverage) {
     println!("finished {}", named(&PIECES, &c.pieces));
     println!("states shown {}", named(&PHASES, &c.phases));
     print_causes(c);
+    trace_summary::print(&c.traces, &c.text_named);
     print_stops(&c.stops);
     print_texts(c);
 }
@@ -81,7 +83,7 @@ fn print_causes(c: &Coverage) {
     }
 }
 
-fn aligned(counts: &[u64]) -> String {
+pub fn aligned(counts: &[u64]) -> String {
     counts.iter().map(|count| format!("{count:6}")).collect()
 }
 
@@ -103,7 +105,7 @@ fn numbered(counts: &[u64]) -> String {
     parts.join(", ")
 }
 
-fn named(names: &[&str], counts: &[u64]) -> String {
+pub fn named(names: &[&str], counts: &[u64]) -> String {
     let both = names.iter().zip(counts);
     let parts: Vec<String> = both
         .map(|(name, count)| format!("{name} {count}"))
@@ -112,7 +114,7 @@ fn named(names: &[&str], counts: &[u64]) -> String {
 }
 
 /// A thing to cover, how often it was, and how often it has to be.
-type Need = (String, u64, u64);
+pub type Need = (String, u64, u64);
 
 /// What the gate's run has to cover and this one did not.
 pub fn missing(c: &Coverage) -> Vec<String> {
@@ -120,6 +122,7 @@ pub fn missing(c: &Coverage) -> Vec<String> {
         refusals_needed(c),
         causes_needed(&c.causes),
         stops_needed(&c.stops),
+        trace_summary::needed(&c.traces, &c.text_named),
         searches_needed(c),
         texts_needed(c),
     ]
@@ -137,7 +140,7 @@ fn each_number(what: &str, numbers: &[usize], counts: &[u64]) -> Vec<Need> {
 }
 
 /// Each of the counts once at least, by a name.
-fn each_name(what: &str, names: &[&str], counts: &[u64]) -> Vec<Need> {
+pub fn each_name(what: &str, names: &[&str], counts: &[u64]) -> Vec<Need> {
     let need = |(name, count): (&&str, &u64)| (format!("{what} {name}"), *count, 1);
     names.iter().zip(counts).map(need).collect()
 }

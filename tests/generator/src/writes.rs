@@ -1,6 +1,7 @@
 //! Lines that write one part of a search: at the edge of each cause of refusal 12, one past it and far from it.
 
 use crate::costs::DARK;
+use crate::numbers;
 use crate::openings::{self, MOST_BUDGET, MOST_SPREAD, MOVED, SIZE, SPREAD};
 use crate::random::Random;
 use crate::state::{State, Written};
@@ -8,9 +9,9 @@ use crate::state::{State, Written};
 pub type Draw = fn(&mut Random, &State) -> Written;
 
 /// Huge numbers, some of which are small in their low 32 bits.
-const HUGE: [u64; 4] = [u64::MAX, 1 << 63, 1 << 32, (1 << 32) + 1];
+pub const HUGE: [u64; 4] = [u64::MAX, 1 << 63, 1 << 32, (1 << 32) + 1];
 
-const EDGES: [Draw; 27] = [
+const EDGES: [Draw; 31] = [
     axes,
     axes,
     budget,
@@ -38,6 +39,10 @@ const EDGES: [Draw; 27] = [
     gathered_order,
     past_order,
     limit,
+    numbers::standing,
+    numbers::gathered,
+    numbers::best,
+    numbers::first_standing,
 ];
 
 /// A line at an edge or past it.
@@ -198,26 +203,23 @@ fn high(random: &mut Random) -> u64 {
     random.pick(&[DARK, DARK, DARK, DARK + 1, DARK + 1, DARK + 1, huge, 0])
 }
 
+/// A cost at the first gathered place, where r is held.
 fn cost_of_r(random: &mut Random, state: &State) -> Written {
     let held = state.standing(random.between(1, 9));
     let beside = about(random, held);
     let high = high(random);
-    [
-        4,
-        random.between(2, 4),
-        random.pick(&[high, high, held, beside]),
-    ]
+    [6, 1, random.pick(&[high, high, held, beside])]
 }
 
 /// A phase that has no detail, though a detail is written.
 fn other_phase(random: &mut Random, _: &State) -> Written {
     let any = random.next();
     let detail = random.pick(&[0, 5, DARK + 1, any]);
-    [4, random.pick(&[1, 1, 7, 8]), detail]
+    [4, random.pick(&[1, 1, 2, 3, 4, 7, 8]), detail]
 }
 
 /// Any place, the last of so many, or one past them.
-fn place(random: &mut Random, vertices: u64) -> u64 {
+pub fn place(random: &mut Random, vertices: u64) -> u64 {
     let any = random.between(1, 9);
     random.pick(&[any, any, vertices.clamp(1, 9), vertices.min(8) + 1, 9])
 }
