@@ -30,14 +30,29 @@ pub fn episode(script: &mut Script, random: &mut Random) {
 
 /// Goes where r is held: by the cost of r, or by a phase that is written. Says whether a tell can be made there.
 fn reached(script: &mut Script, random: &mut Random) -> bool {
+    if !script.state().holds_r() && random.one_in(3) {
+        script.write([4, 1, random.below(3)]);
+    }
     let state = script.state();
     if state.phase() == 1 && !random.one_in(4) {
-        let cost = cost_of_r(random, &state);
-        script.tell(script.next_number(), cost);
+        tell_r(script, random, &state);
     } else if !state.holds_r() || random.one_in(4) {
         script.write([4, random.between(2, 4), random.below(3)]);
     }
     script.goes_on() && script.state().holds_r()
+}
+
+/// Tells r, at times where gathered places are not blank, and shows how it is held.
+fn tell_r(script: &mut Script, random: &mut Random, state: &State) {
+    if random.one_in(3) {
+        let (one, other) = (random.between(1, 9), random.between(1, 9));
+        script.write([6, one, random.below(DARK)]);
+        script.write([12, other, random.below(100)]);
+    }
+    script.tell(script.next_number(), cost_of_r(random, state));
+    if random.one_in(2) {
+        script.show();
+    }
 }
 
 /// A cost of r of the first row, the third or the fourth.
