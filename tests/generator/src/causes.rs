@@ -21,8 +21,8 @@ pub const CAUSES: [&str; 26] = [
     "budget above 1,000,000",
     "spread E",
     "build number above n",
-    "build number 0, readings, no build",
-    "build number 0, readings, builds",
+    "build number 0 after a reading, no build",
+    "build number 0 after a reading, builds",
     "shrink number 0",
     "shrink number above n",
     "probe number",
@@ -210,8 +210,8 @@ fn readings_edges(state: &State) -> Vec<(&'static str, Edge)> {
 /// The cause of a build without a vertex, whatever the count of builds is.
 fn without_vertex(state: &State) -> &'static str {
     match state.builds() {
-        0 => "build number 0, readings, no build",
-        _ => "build number 0, readings, builds",
+        0 => "build number 0 after a reading, no build",
+        _ => "build number 0 after a reading, builds",
     }
 }
 

@@ -88,15 +88,15 @@ fn measure(script: &mut Script, random: &mut Random, costs: &mut Costs) {
 }
 
 fn episode(script: &mut Script, random: &mut Random, costs: &mut Costs) {
-    match random.below(24) {
+    match random.below(26) {
         0 | 1 => several(script, random, costs),
         2..=4 => going_on(script, random, costs),
         5 => episodes::outside_the_limits(script, random),
-        6 => episodes::at_a_threshold(script, random),
-        7..=10 => limits::episode(script, random, costs),
-        11 | 12 => held::episode(script, random),
-        13 | 14 => numbers::order(script, random),
-        15 => numbers::first_vertex(script, random),
+        6 | 7 => episodes::at_a_threshold(script, random),
+        8..=11 => limits::episode(script, random, costs),
+        12 | 13 => held::episode(script, random),
+        14 | 15 => numbers::order(script, random),
+        16 => numbers::first_vertex(script, random),
         _ => {
             let line = writes::at_an_edge(random, &script.state());
             written(script, random, costs, line);

@@ -79,7 +79,7 @@ fn print_causes(c: &Coverage) {
     println!("refusal 12 one past its edge at {calls}; accepted at its edge at {calls}");
     let counts = c.causes.refused.iter().zip(&c.causes.accepted);
     for (cause, (refused, accepted)) in CAUSES.iter().zip(counts) {
-        println!("  {cause:30} {}; {}", aligned(refused), aligned(accepted));
+        println!("  {cause:40} {}; {}", aligned(refused), aligned(accepted));
     }
 }
 

@@ -15,7 +15,7 @@ pub fn print(traces: &Traces, ends: &Ends) {
     );
     println!("numbers written: {}", VALUES.join(", "));
     for (name, counts) in PARTS.iter().zip(&traces.written) {
-        println!("  {name:30} {}", aligned(counts));
+        println!("  {name:40} {}", aligned(counts));
     }
     print_held(traces);
     println!(
@@ -30,7 +30,7 @@ pub fn print(traces: &Traces, ends: &Ends) {
         "standing places out of order: not read, accepted at {calls}; read, refused at {calls}"
     );
     for (name, (unread, read)) in BUILDS.iter().zip(traces.unread.iter().zip(&traces.read)) {
-        println!("  {name:30} {}; {}", aligned(unread), aligned(read));
+        println!("  {name:40} {}; {}", aligned(unread), aligned(read));
     }
     println!(
         "first vertex told of a made-up build {}",
@@ -48,7 +48,7 @@ fn print_held(traces: &Traces) {
     for (phase, rows) in PHASES[2..5].iter().zip(&traces.held) {
         for (written, counts) in WRITTEN.iter().zip(rows) {
             let name = format!("{phase}, {written}");
-            println!("  {name:30} {}", aligned(counts));
+            println!("  {name:40} {}", aligned(counts));
         }
     }
 }
