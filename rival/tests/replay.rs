@@ -85,10 +85,19 @@ fn every_rule_is_read() {
     assert_eq!(phase(3, 0.5f64.to_bits()), "0000000000000001");
 }
 
-#[test]
-fn malformed_lines_end_the_transcript() {
+/// Asserts that a line after an ask, and most often before one, ends the transcript.
+#[track_caller]
+fn assert_malformed(line: &str) {
     let closed_ask = format!("a{}{}\n", word(8), zeros(10));
     let expected = format!("{closed_ask}x{}\n", word(2));
+    let script = format!("a\n{line}a\n");
+    let cut = format!("a\n{line}");
+    let script = if line.ends_with('\n') { script } else { cut };
+    assert_eq!(transcript(&script), expected, "{line:?}");
+}
+
+#[test]
+fn malformed_lines_end_the_transcript() {
     let long = opening(1, 1, 1, 4);
     for line in [
         "\n".to_string(),
@@ -103,27 +112,6 @@ fn malformed_lines_end_the_transcript() {
         format!("t{}\n", word(1)),
         format!("p{}{}\n", word(0), word(0)),
         write(0, 0, 1).replace('\n', " 0000000000000000\n"),
-        write(9, 0, 1),
-        write(9, 9, 1),
-        write(10, 0, 1),
-        write(10, 9, 1),
-        write(10, (1 << 32) + 1, 1),
-        write(11, 0, 1),
-        write(11, 10, 1),
-        write(12, 0, 1),
-        write(12, 10, 1),
-        write(12, (1 << 32) + 1, 1),
-        write(13, 1, 1),
-        write(14, 0, 1),
-        write(14, 1, 1),
-        write(u64::MAX, 0, 1),
-        write(0, 1, 1),
-        write(3, 0, 1),
-        write(3, 8, 1),
-        write(4, 9, 1),
-        write(6, 10, 1),
-        write(8, 0, 1),
-        write(8, (1 << 32) + 1, 1),
         format!("r{}\n", word(1)),
         format!("r{}{}\n", word(1), word(16_777_217)),
         format!("t{}{}{}\n", word(1), word(1), word(1)),
@@ -137,10 +125,36 @@ fn malformed_lines_end_the_transcript() {
         long.replace('\n', " 0000000000000000\n"),
         format!("{}\n", &long[..long.len() - 18]),
     ] {
-        let script = format!("a\n{line}a\n");
-        let cut = format!("a\n{line}");
-        let script = if line.ends_with('\n') { script } else { cut };
-        assert_eq!(transcript(&script), expected, "{line:?}");
+        assert_malformed(&line);
+    }
+}
+
+#[test]
+fn parts_that_are_not_in_the_table_are_malformed() {
+    for (part, which) in [
+        (9, 0),
+        (9, 9),
+        (10, 0),
+        (10, 9),
+        (10, (1 << 32) + 1),
+        (11, 0),
+        (11, 10),
+        (12, 0),
+        (12, 10),
+        (12, (1 << 32) + 1),
+        (13, 1),
+        (14, 0),
+        (14, 1),
+        (u64::MAX, 0),
+        (0, 1),
+        (3, 0),
+        (3, 8),
+        (4, 9),
+        (6, 10),
+        (8, 0),
+        (8, (1 << 32) + 1),
+    ] {
+        assert_malformed(&write(part, which, 1));
     }
 }
 
