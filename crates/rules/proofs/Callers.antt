@@ -4,7 +4,7 @@ use mathlib.Core.Path.{◌≡◌, refl, sym, ap, ◌∙◌, subst}
 use mathlib.Core.Bool.{Bool, true, false, cond, and-eq-true_iff, not}
 use mathlib.Core.List.{List, [], ◌∷◌, ◌++◌, Memᴰ}
 use mathlib.Core.Logic.{◌↔◌, ◌⊎◌, ⊎_elim}
-use Prim.Native.Nat.{ℕ, ◌+◌, ◌*◌, ◌≤◌, ◌<◌}
+use Prim.Native.Nat.{ℕ, ◌+◌, ◌-◌, ◌*◌, ◌≤◌, ◌<◌}
 use native.Mathlib.Omega.{arith}
 use lib.ListN.{length, get_or, length-append}
 use lib.Dec.{eqb}
@@ -13,13 +13,14 @@ use borrow.Author.Tests.{eqb-true, ne_eqb, eq-eqb, lt-leb}
 use Rattle.std.proofs.lemmas.Bool.{cases_Bool}
 use Rattle.rules.specs.Binary64.{◌≤ᶠ◌}
 use Rattle.rules.specs.Numbers.{max_cost}
+use Rattle.rules.specs.Simplex.{cost_of}
 use Rattle.rules.specs.View.{is_ended}
 use Rattle.rules.specs.Trial.{no_axis, target, trial}
 use Rattle.rules.specs.Refusals.{Verdict, check, answered}
 use Rattle.rules.specs.Opening.{opening, fresh}
 use Rattle.rules.specs.Calls.{undamaged, ask_verdict, tell_verdict, best_verdict, asking, telling, showing, told_by}
 use Rattle.rules.specs.History.{Call, tell, Event, told, after1, after, run, costs_in, joins, history1, history_from, history, reading}
-use Rattle.rules.specs.Claims.{Within, StopsOf, Claims}
+use Rattle.rules.specs.Claims.{IsRead, Within, StopsOf, Claims}
 use Rattle.rules.specs.declared.Rule.{Rule}
 use Rattle.rules.specs.declared.Axis.{Axis}
 use Rattle.rules.specs.declared.Coefficients.{Coefficients}
@@ -224,9 +225,12 @@ module _ (n : ℕ) (axes : List Axis) (rule : Option Rule) (coefficients : Coeff
 
   pub panel_best : (cs : List Call) → 0 < length (accepted_costs cs)
       → (v : Vertex) × (showing (reached cs) ≡ Ok v)
-      × ((k : ℕ) × (k < length (accepted_costs cs)) × (v ≡ reading opened_search (accepted_history cs) k))
+      × IsRead opened_search (accepted_history cs) v
       × ((j : ℕ) → j < length (accepted_costs cs) → v.cost ≤ (reading opened_search (accepted_history cs) j).cost)
-  panel_best cs l = let b = (claims cs).best l in (reading opened_search (accepted_history cs) b.0, b.2, (b.0, b.1.told, refl), λ j m. b.1.least j m)
+  panel_best cs l =
+      let b = (claims cs).best l in
+      let cost : b.0.cost ≡ get_or (accepted_costs cs) (b.0.number - 1) 0 = ap cost_of b.1.read.very in
+      (b.0, b.2, b.1.read, λ j m. rw cost (b.1.least.least j m))
 
   pub panel_none : (cs : List Call) → length (accepted_costs cs) ≡ 0 → showing (reached cs) ≡ Err NoReading
   panel_none cs e = best_none (reached cs) (sound_always cs) ((claims cs).readings ∙ e)

@@ -8,12 +8,13 @@ use lib.ListN.{length, take}
 use Rattle.rules.specs.Opening.{opening}
 use Rattle.rules.specs.Trial.{target}
 use Rattle.rules.specs.Calls.{standing_of, asking}
-use Rattle.rules.specs.History.{Event, told, Call, after, run, costs_in, history, reading, EarliestLeast}
+use Rattle.rules.specs.History.{Event, told, Call, after, run, costs_in, history}
 use Rattle.rules.specs.Tally.{readings_by, Ends}
-use Rattle.rules.specs.Claims.{Within, StopsOf, BoundAfter, FullRound, Claims}
+use Rattle.rules.specs.Claims.{IsBest, Within, StopsOf, BoundAfter, FullRound, Claims}
 use Rattle.rules.specs.declared.Rule.{Rule}
 use Rattle.rules.specs.declared.Axis.{Axis}
 use Rattle.rules.specs.declared.Coefficients.{Coefficients}
+use Rattle.rules.specs.declared.Vertex.{Vertex}
 use Rattle.rules.specs.declared.Setup.{Setup}
 use Rattle.rules.specs.declared.Search.{Search}
 use Rattle.rules.specs.declared.Asked.{Asked}
@@ -23,15 +24,15 @@ use Rattle.rules.specs.declared.Phase.TheVariants.{Ended}
 use Rattle.rules.specs.declared.Cause.TheVariants.{Settled}
 use Rattle.rules.proofs.Laws.Openings.{opened_verdict, opened_fresh, opened_sane}
 use Rattle.rules.proofs.Laws.Histories.{Joined}
-use Rattle.rules.proofs.Runs.Begun.{Begun, fresh_begun, whole_run, run_inv, run_readings, run_counts, run_probes, run_unfinished, run_standing, run_places, run_vertices}
+use Rattle.rules.proofs.Runs.Begun.{Begun, fresh_begun, whole_run, run_inv, run_readings, run_counts, run_probes, run_unfinished, run_standing, run_places, run_vertices, run_gathered}
 use Rattle.rules.proofs.Runs.Moments.{run_first, made_since, falls_since, run_settled_only, run_settled_when, run_spent, run_within, run_within_told, run_stops}
 use Rattle.rules.proofs.Runs.Calling.{telling_joins, asking_answers, asked_trial, showing_best, all_follow}
 
 -- every claim, of the rules over an accepted history
 module _ (o : Search) (begun : Begun o) where
   first_of : (h : List Event) → Joined o h → (before : List Event) (e : Event) (since : List Event) → h ≡ before ++ e ∷ since → Ends o before e
-      → (k : ℕ) × EarliestLeast (costs_in (before ++ e ∷ [])) k × (take 1 (standing_of (run o (before ++ e ∷ []))) ≡ reading o h k ∷ [])
-  first_of h t before e since is ends = rw is (run_first o begun before e since (rw is at t) ends)
+      → let till = before ++ e ∷ [] in (v : Vertex) × IsBest o till v × (take 1 (standing_of (run o till)) ≡ v ∷ [])
+  first_of h t before e since is ends = run_first o begun before e since (rw is at t) ends
 
   bound_of : (p : Piece) (h : List Event) → Joined o h → BoundAfter p o h
   bound_of p h t before e since is ends builds shrinks =
@@ -65,6 +66,7 @@ module _ (o : Search) (begun : Begun o) where
         sorted = rw (run_standing o begun h t) (run_inv o begun h t).stands.sorted;
         places = run_places o begun h t;
         vertices = run_vertices o begun h t;
+        gathered = run_gathered o begun h t;
         best = showing_best o begun h t;
         first = first_of h t;
         readings = run_readings o begun h t;

@@ -2,13 +2,14 @@
 -- cause by cause, and a trial's stops, by computation. Assumes nothing.
 use mathlib.Core.Path.{◌≡◌, refl}
 use Rattle.rules.specs.Simplex.{flat, store}
+use Rattle.rules.specs.History.{costs_in, before_cost}
 use Rattle.rules.specs.Opening.{axes_checks, open_verdict, closed}
 use Rattle.rules.specs.Calls.{in_order, all_costs, sound, ask_verdict, tell_verdict, best_verdict, showing}
 use Rattle.rules.specs.Tally.{pieces, count_of, probes_in, open_in}
 use Rattle.rules.specs.Walks.{walk_by, walks_given, walks_stated}
 use Rattle.rules.specs.Thresholds.{thresholds_given, thresholds_stated}
 use Rattle.rules.specs.Edges.{edges_given, edges_stated, opened_given, opened_stated, clamps_given, clamps_stated}
-use Rattle.rules.specs.Parts.{parts_given, parts_stated, tallies_given, tallies_stated, runs_given, runs_stated, closed_stated}
+use Rattle.rules.specs.Parts.{parts_given, parts_stated, numbers_given, numbers_stated, tallies_given, tallies_stated, runs_given, runs_stated, closed_stated}
 use Rattle.rules.specs.Causes.{causes_given, causes_stated, strays_given, strays_stated}
 use Rattle.rules.specs.Stops.{stops_given, stops_stated, limited_given, limited_stated, asks_given, asks_stated}
 use Rattle.rules.proofs.Examples.{floats, rules, calls}
@@ -37,6 +38,10 @@ pub parts : parts_given ≡ parts_stated
 unfolding parts_given parts_stated rules
 parts = refl
 
+pub numbers : numbers_given ≡ numbers_stated
+unfolding numbers_given numbers_stated rules
+numbers = refl
+
 pub tallies : tallies_given ≡ tallies_stated
 unfolding tallies_given tallies_stated pieces count_of probes_in open_in rules
 tallies = refl
@@ -54,7 +59,7 @@ unfolding causes_given causes_stated rules in_order all_costs sound ask_verdict 
 causes = refl
 
 pub strays : strays_given ≡ strays_stated
-unfolding strays_given strays_stated rules in_order all_costs sound best_verdict showing
+unfolding strays_given strays_stated rules in_order all_costs sound best_verdict showing costs_in before_cost
 strays = refl
 
 pub stops : stops_given ≡ stops_stated

@@ -22,12 +22,12 @@ use Rattle.rules.specs.declared.Keeping.TheVariants.{Nothing, Joined, First}
 use Rattle.rules.specs.declared.Decision.{Decision}
 use Rattle.rules.specs.declared.Decision.TheVariants.{Go, Take, Stand, Restart}
 
--- ---- the vertices: v is the reading, the trial with its cost, and u the vertex that enters by the decision
+-- ---- the vertices: v is the reading, and u the vertex that enters by the decision
 
--- "take e .., else r": the reading, or r with the cost that was told for it
+-- "take e .., else r": the reading, or r as it was gathered
 abbrev pub newcomer : Newcomer → Vertex → Search → Vertex
 newcomer Latest v s = v
-newcomer (Reflected fr) v s = record { point = point_in Reflecting s; cost = fr }
+newcomer Reflected v s = place s.gathered 0
 
 -- the vertex that a decision lets in
 abbrev pub entrant : Decision → Vertex → Search → Vertex
@@ -44,7 +44,7 @@ gathered_of s = unpack (gathered_in s.phase) s.gathered
 abbrev pub replaced : Vertex → Search → List Vertex
 replaced u s = insert u (unpack s.setup.n s.standing)
 
--- "built and shrunk vertices enter in the order told"
+-- "built and shrunk vertices enter in the order told"; r is gathered alone
 abbrev pub joined : Vertex → Search → List Vertex
 joined u s = insert u (gathered_of s)
 
@@ -147,6 +147,10 @@ acted d v s =
       counts = counts_after d s;
     }
 
+-- the reading of cost c: the trial, its cost, and "the number of the reading that gave" it, by "accepted readings + 1"
+abbrev pub reading_of : Search → ℕ → Vertex
+reading_of s c = record { point = (trial s).point; cost = c; number = s.readings + 1 }
+
 -- the search after an accepted reading of cost c
 unfoldable pub accept : Search → ℕ → Search
-accept s c = acted (decided s.phase s c) (record { point = (trial s).point; cost = c }) s
+accept s c = acted (decided s.phase s c) (reading_of s c) s

@@ -1,5 +1,5 @@
 -- "Refused calls", the rows of the later calls: ask, tell and best, their refusals in table order, and their answers.
-use Rattle.std.specs.Prelude.{Bool, true, cond, not, ◌&&◌, ◌||◌, List, [], ◌∷◌, ℕ, ◌+◌, ◌*◌, take, leb, ltb, eqb, Result, Ok, Err}
+use Rattle.std.specs.Prelude.{Bool, true, cond, not, ◌&&◌, ◌||◌, List, [], ◌∷◌, ℕ, ◌+◌, ◌*◌, get_or, take, leb, ltb, eqb, Result, Ok, Err}
 use Rattle.rules.specs.Binary64.{0ᶠ}
 use Rattle.rules.specs.Numbers.{max_cost, max_budget, max_spread}
 use Rattle.rules.specs.Simplex.{first_of, unpack}
@@ -12,6 +12,7 @@ use Rattle.rules.specs.declared.Rule.TheVariants.{Spread, Moved, Size}
 use Rattle.rules.specs.declared.Phase.{Phase}
 use Rattle.rules.specs.declared.Phase.TheVariants.{Building, Reflecting, Expanding, Contracting, Shrinking, Probing, Ended}
 use Rattle.rules.specs.declared.Vertex.{Vertex}
+use Rattle.rules.specs.declared.Simplex.{Simplex}
 use Rattle.rules.specs.declared.Counts.{Counts}
 use Rattle.rules.specs.declared.Setup.{Setup}
 use Rattle.rules.specs.declared.Search.{Search}
@@ -19,23 +20,23 @@ use Rattle.rules.specs.declared.Asked.{Asked}
 use Rattle.rules.specs.declared.Refusal.{Refusal}
 use Rattle.rules.specs.declared.Refusal.TheVariants.{SearchEnded, CostTooHigh, WrongNumber, NoReading, Damaged}
 
--- not "a phase's vertex or probe number outside that phase's trials", nor a held cost above the largest
+-- not "a phase's vertex or probe number outside that phase's trials": trial 0 is one of a build's only before the first reading
 abbrev pub sound_phase : ℕ → ℕ → Phase → Bool
-sound_phase n builds (Building i) = leb i n && (eqb builds 0 || leb 1 i)
-sound_phase n builds Reflecting = true
-sound_phase n builds (Expanding f) = leb f max_cost
-sound_phase n builds (Contracting side f) = leb f max_cost
-sound_phase n builds (Shrinking j) = leb 1 j && leb j n
-sound_phase n builds (Probing p) = ltb p (2 * n)
-sound_phase n builds (Ended cause) = true
+sound_phase n readings (Building i) = leb i n && (eqb readings 0 || leb 1 i)
+sound_phase n readings Reflecting = true
+sound_phase n readings Expanding = true
+sound_phase n readings (Contracting side) = true
+sound_phase n readings (Shrinking j) = leb 1 j && leb j n
+sound_phase n readings (Probing p) = ltb p (2 * n)
+sound_phase n readings (Ended cause) = true
 
--- how many vertices stand, after so many builds: "before the first build ends it is empty"
-abbrev pub standing_in : ℕ → ℕ → ℕ
-standing_in n builds = cond (eqb builds 0) 0 (n + 1)
+-- how many vertices stand: "before the first build ends it is empty", and from then on place 1 has a reading
+abbrev pub standing_in : ℕ → Simplex → ℕ
+standing_in n places = cond (eqb (get_or places.numbers 0 0) 0) 0 (n + 1)
 
 -- the standing simplex
 abbrev pub standing_of : Search → List Vertex
-standing_of s = unpack (standing_in s.setup.n s.counts.builds) s.standing
+standing_of s = unpack (standing_in s.setup.n s.standing) s.standing
 
 -- not "out of cost order"
 unfoldable pub in_order : List ℕ → Bool
@@ -58,19 +59,19 @@ sound_rule (Size e) = true
 abbrev pub sound_counts : ℕ → Counts → Bool
 sound_counts b c = leb c.builds b && leb c.reflections b && leb c.expansions b && leb c.contractions b && leb c.shrinks b && leb c.probes b && leb c.unfinished b
 
--- none of the causes of refusal 12, in the order of its row, by what it reads: setup, phase, readings and counts, the costs of the standing
--- and of the gathered places, the best cost
-unfoldable pub sound : Setup → Phase → ℕ → Counts → List ℕ → List ℕ → ℕ → Bool
-sound t phase readings c standing gathered best =
+-- none of the causes of refusal 12, in the order of its row, by what it reads: setup, phase, readings and counts, how many vertices stand, the
+-- costs of the standing and of the gathered places, the best cost
+unfoldable pub sound : Setup → Phase → ℕ → Counts → ℕ → List ℕ → List ℕ → ℕ → Bool
+sound t phase readings c many standing gathered best =
     leb 1 t.n && leb t.n 8
     && ltb readings t.budget && sound_counts t.budget c && leb t.budget max_budget
-    && sound_rule t.rule && sound_phase t.n c.builds phase
-    && in_order (take (standing_in t.n c.builds) standing) && in_order (take (gathered_in phase) gathered)
+    && sound_rule t.rule && sound_phase t.n readings phase
+    && in_order (take many standing) && in_order (take (gathered_in phase) gathered)
     && all_costs standing && all_costs gathered && leb best max_cost
 
 -- the search s meets none of them
 abbrev pub intact : Search → Bool
-intact s = sound s.setup s.phase s.readings s.counts s.standing.costs s.gathered.costs s.best.cost
+intact s = sound s.setup s.phase s.readings s.counts (standing_in s.setup.n s.standing) s.standing.costs s.gathered.costs s.best.cost
 
 -- refusal 12 begins with "search not ended": an ended search never meets it
 abbrev pub undamaged : Search → Bool
@@ -112,4 +113,4 @@ telling s number cost = told_by (tell_verdict s number cost) s cost
 
 -- best: the best reading; it changes nothing
 unfoldable pub showing : Search → Result Vertex Refusal
-showing s = answered (best_verdict s) (record { point = first_of s.setup.n 0ᶠ s.best.point; cost = s.best.cost })
+showing s = answered (best_verdict s) (record { point = first_of s.setup.n 0ᶠ s.best.point; cost = s.best.cost; number = s.best.number })

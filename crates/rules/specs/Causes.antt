@@ -1,14 +1,17 @@
 -- Refusal 12, cause by cause, each at its edge and one past it, on searches that no calls make: what its row of the table says. And a few readings
 -- told to such searches, where no other shows what is carried.
-use Rattle.std.specs.Prelude.{List, [], ◌∷◌, map, ℕ, take, replicate, Result, Ok, Err}
+use Rattle.std.specs.Prelude.{List, [], ◌∷◌, ◌++◌, map, ℕ, ◌-◌, length, take, replicate, Result, Ok, Err}
 use Rattle.std.specs.Float.{binary64, nan}
 use Rattle.std.specs.Float.Ieee.{to_bits}
 use Rattle.rules.specs.Binary64.{1ᶠ}
+use Rattle.rules.specs.Simplex.{place, pack}
 use Rattle.rules.specs.Count.{no_counts}
 use Rattle.rules.specs.Accept.{accept}
 use Rattle.rules.specs.Calls.{ask_verdict, tell_verdict, best_verdict, showing}
+use Rattle.rules.specs.History.{told, reading}
+use Rattle.rules.specs.Examples.{after_costs}
 use Rattle.rules.specs.Answers.{refused_as, unread_search}
-use Rattle.rules.specs.Further.{with_gathered, built_search}
+use Rattle.rules.specs.Further.{with_standing, with_gathered, built_search}
 use Rattle.rules.specs.Walks.{asked_bits}
 use Rattle.rules.specs.declared.Rule.{Rule}
 use Rattle.rules.specs.declared.Rule.TheVariants.{Spread, Moved, Size}
@@ -45,6 +48,10 @@ with_counts c s = record s { counts = c }
 abbrev pub with_phase : Phase → Search → Search
 with_phase p s = record s { phase = p }
 
+-- with other numbers at its first standing places; blank places follow
+abbrev pub with_numbers : List ℕ → Search → Search
+with_numbers ks s = record s { standing = record s.standing { numbers = ks ++ replicate (9 - length ks) 0 } }
+
 -- the number that ask refuses it with, 0 where it answers
 abbrev pub by_ask : Search → ℕ
 by_ask s = refused_as (ask_verdict s)
@@ -76,21 +83,28 @@ causes_given =
     -- E of spread: 0, the largest and one more; any float of moved and of size
     ∷ by_ask (with_rule (Spread 0) built_search) ∷ by_ask (with_rule (Spread 4294967295) built_search)
     ∷ by_ask (with_rule (Spread 4294967296) built_search) ∷ by_ask (with_rule (Moved nan) built_search) ∷ by_ask (with_rule (Size nan) built_search)
-    -- building: n and n + 1; 0 in the first build and after it; 1 after it
+    -- building: n and n + 1; 0 before the first reading and after it, whatever the builds are; 1 after it
     ∷ by_ask (with_phase (Building 2) unread_search) ∷ by_ask (with_phase (Building 3) unread_search) ∷ by_ask (with_phase (Building 0) unread_search)
+    ∷ by_ask (with_counts (record no_counts { builds = 5 }) unread_search) ∷ by_ask (with_readings 1 unread_search)
     ∷ by_ask (with_phase (Building 0) built_search) ∷ by_ask (with_phase (Building 1) built_search)
-    -- reflecting holds no number; expanding and contracting: the largest cost and one more
-    ∷ by_ask (with_phase Reflecting unread_search) ∷ by_ask (with_phase (Expanding 16777215) built_search)
-    ∷ by_ask (with_phase (Expanding 16777216) built_search) ∷ by_ask (with_phase (Contracting Outside 16777215) built_search)
-    ∷ by_ask (with_phase (Contracting Outside 16777216) built_search) ∷ by_ask (with_phase (Contracting Inside 16777215) built_search)
-    ∷ by_ask (with_phase (Contracting Inside 16777216) built_search)
+    -- reflecting, expanding and contracting hold no number
+    ∷ by_ask (with_phase Reflecting unread_search) ∷ by_ask (with_phase Expanding unread_search)
+    ∷ by_ask (with_phase (Contracting Outside) unread_search) ∷ by_ask (with_phase (Contracting Inside) unread_search)
+    -- r, which they hold: the largest cost and one more
+    ∷ by_ask (with_gathered (16777215 ∷ []) (with_phase Expanding built_search)) ∷ by_ask (with_gathered (16777216 ∷ []) (with_phase Expanding built_search))
+    ∷ by_ask (with_gathered (16777216 ∷ []) (with_phase (Contracting Outside) built_search))
     -- shrinking: 0, 1, n and n + 1; probing: 2n − 1 and 2n
     ∷ by_ask (with_phase (Shrinking 0) built_search) ∷ by_ask (with_phase (Shrinking 1) built_search) ∷ by_ask (with_phase (Shrinking 2) built_search)
     ∷ by_ask (with_phase (Shrinking 3) built_search) ∷ by_ask (with_phase (Probing 3) built_search) ∷ by_ask (with_phase (Probing 4) built_search)
-    -- as many gathered places as the phase says are held to order: two of a shrink at place 3, one at place 2; none while reflecting or probing
+    -- as many gathered places as the phase says are held to order: two of a shrink at place 3, one at place 2; r alone while e or a contraction
+    -- is asked; none while reflecting or probing
     ∷ by_ask (with_gathered (20 ∷ 19 ∷ []) (with_phase (Shrinking 2) built_search))
     ∷ by_ask (with_gathered (20 ∷ 19 ∷ []) (with_phase (Shrinking 1) built_search)) ∷ by_ask (with_gathered (20 ∷ 19 ∷ []) built_search)
+    ∷ by_ask (with_gathered (20 ∷ 19 ∷ []) (with_phase Expanding built_search))
+    ∷ by_ask (with_gathered (20 ∷ 19 ∷ []) (with_phase (Contracting Inside) built_search))
     ∷ by_ask (with_gathered (20 ∷ 19 ∷ []) (with_phase (Probing 3) built_search))
+    -- n + 1 standing places are held to order where place 1 has a number, whatever the builds are, and none where it has none
+    ∷ by_ask (with_standing (20 ∷ 19 ∷ []) (with_numbers (1 ∷ []) unread_search)) ∷ by_ask (with_standing (20 ∷ 19 ∷ []) (with_numbers (0 ∷ 2 ∷ []) built_search))
     -- tell and best are refused alike, before 10, 9 and 11; an ended search never is: ask answers 8, tell 8, best its reading
     ∷ refused_as (tell_verdict (with_n 9 built_search) 9 16777216) ∷ refused_as (best_verdict (with_n 9 unread_search))
     ∷ refused_as (best_verdict (with_n 9 built_search)) ∷ by_ask (with_phase (Ended Settled) (with_n 9 built_search))
@@ -106,29 +120,43 @@ causes_stated =
     ∷ 0 ∷ 12
     ∷ 0 ∷ 12 ∷ 0 ∷ 12 ∷ 0 ∷ 12 ∷ 0 ∷ 12 ∷ 0 ∷ 12 ∷ 0 ∷ 12 ∷ 0 ∷ 12
     ∷ 0 ∷ 0 ∷ 12 ∷ 0 ∷ 0
-    ∷ 0 ∷ 12 ∷ 0 ∷ 12 ∷ 0
-    ∷ 0 ∷ 0 ∷ 12 ∷ 0 ∷ 12 ∷ 0 ∷ 12
+    ∷ 0 ∷ 12 ∷ 0 ∷ 0 ∷ 12 ∷ 12 ∷ 0
+    ∷ 0 ∷ 0 ∷ 0 ∷ 0
+    ∷ 0 ∷ 12 ∷ 12
     ∷ 12 ∷ 0 ∷ 0 ∷ 12 ∷ 0 ∷ 12
-    ∷ 12 ∷ 0 ∷ 0 ∷ 0
+    ∷ 12 ∷ 0 ∷ 0 ∷ 0 ∷ 0 ∷ 0
+    ∷ 12 ∷ 0
     ∷ 12 ∷ 12 ∷ 12 ∷ 8 ∷ 8 ∷ 0
     ∷ []
 
--- the first k gathered costs after a reading of cost c
-abbrev pub gathered_then : Search → ℕ → ℕ → List ℕ
-gathered_then s c k = take k (accept s c).gathered.costs
+-- the first two gathered costs after a reading of cost c, and their numbers
+abbrev pub gathered_then : Search → ℕ → List ℕ
+gathered_then s c = take 2 (accept s c).gathered.costs ++ take 2 (accept s c).gathered.numbers
+
+-- the vertex at place i, from 0, of the standing simplex after a reading of cost c: its first two coordinates, its cost and its number
+abbrev pub stands_then : Search → ℕ → ℕ → List ℕ
+stands_then s c i = let v = place (accept s c).standing i in map (to_bits binary64) (take 2 v.point) ++ v.cost ∷ v.number ∷ []
+
+-- the search of three vertices in the phase p, with another vertex gathered first: at (1, 1, ..), of cost 7 and number 9
+abbrev pub with_r : Phase → Search
+with_r p = record (with_phase p built_search) { gathered = pack (record { point = replicate 8 1ᶠ; cost = 7; number = 9 } ∷ []) }
 
 -- the open readings after a reading of cost c
 abbrev pub open_then : Search → ℕ → List ℕ
 open_then s c = (accept s c).counts.unfinished ∷ []
 
--- the coordinates that best shows, by their bits
+-- what best shows: the coordinates by their bits, the cost and the number
 abbrev pub shown : Result Vertex Refusal → List ℕ
-shown (Ok v) = map (to_bits binary64) v.point
+shown (Ok v) = map (to_bits binary64) v.point ++ v.cost ∷ v.number ∷ []
 shown (Err r) = []
 
 -- the search s whose best point has eight ones
 abbrev pub with_ones : Search → Search
-with_ones s = record s { best = record { point = replicate 8 1ᶠ; cost = 5 } }
+with_ones s = record s { best = record { point = replicate 8 1ᶠ; cost = 5; number = 6 } }
+
+-- the search s has read four times before: the number of reading k, from 0, of these costs, and the best's after them
+abbrev pub numbered : Search → List ℕ → ℕ → List ℕ
+numbered s cs k = let o = with_readings 4 s in (reading o (map told cs) k).number ∷ (after_costs o cs).best.number ∷ []
 
 -- what is asked after a reading of cost c
 abbrev pub probes_then : Search → ℕ → List ℕ
@@ -137,21 +165,35 @@ probes_then s c = asked_bits (accept s c)
 -- what the rules give
 unfoldable pub strays_given : List (List ℕ)
 strays_given =
-    -- costs that are gathered without a build or a shrink stay while e is asked, and go where r is taken
-    gathered_then (with_gathered (7 ∷ 8 ∷ []) built_search) 5 2 ∷ gathered_then (with_gathered (7 ∷ 8 ∷ []) built_search) 15 2
-    -- a reading of an iteration is open, also before the first build ends; the first of all is not, whatever the other counts are
+    -- costs that are gathered without a build or an iteration go where r is gathered, and where it is taken; they stay at a probe
+    gathered_then (with_gathered (7 ∷ 8 ∷ []) built_search) 5 ∷ gathered_then (with_gathered (7 ∷ 8 ∷ []) built_search) 15
+    ∷ gathered_then (with_gathered (7 ∷ 8 ∷ []) (with_phase (Probing 0) built_search)) 15
+    -- r is what is gathered: e at the cost 6 is below it, and at 7 it is not; the outside point at 7 is not above it, and at 8 it is, where a shrink
+    -- begins; the inside point does not ask for it
+    ∷ stands_then (with_r Expanding) 6 0 ∷ stands_then (with_r Expanding) 7 0
+    ∷ stands_then (with_r (Contracting Outside)) 7 0 ∷ gathered_then (with_r (Contracting Outside)) 8
+    ∷ stands_then (with_r (Contracting Inside)) 29 2 ∷ gathered_then (with_r (Contracting Inside)) 30
+    -- a reading of an iteration is open, also before the first build ends; trial 0 of a build is not, whatever the counts are, and trial 1 is
     ∷ open_then (with_phase Reflecting unread_search) 5 ∷ open_then (with_counts (record no_counts { shrinks = 1 }) unread_search) 5
+    ∷ open_then (with_counts (record no_counts { builds = 1 }) unread_search) 5 ∷ open_then (with_phase (Building 1) unread_search) 5
+    -- readings are numbered after those before them
+    ∷ numbered built_search (15 ∷ 16 ∷ 5 ∷ []) 1 ∷ numbered built_search (15 ∷ 16 ∷ 5 ∷ []) 2
     -- a probe goes around the best, and is held against its cost, where place 1 is another vertex
     ∷ asked_bits (with_phase (Probing 0) (with_ones built_search)) ∷ probes_then (with_phase (Probing 0) (with_ones built_search)) 7
-    -- best shows n coordinates
+    -- best shows n coordinates, the cost and the number
     ∷ shown (showing (with_ones built_search))
     ∷ []
 
 -- what docs/REPLAY.md says of each, in this order: document 01 speaks of searches that calls have made
 unfoldable pub strays_stated : List (List ℕ)
 strays_stated =
-    (7 ∷ 8 ∷ []) ∷ (0 ∷ 0 ∷ [])
+    (5 ∷ 0 ∷ 4 ∷ 0 ∷ []) ∷ (0 ∷ 0 ∷ 0 ∷ 0 ∷ []) ∷ (7 ∷ 8 ∷ 0 ∷ 0 ∷ [])
+    ∷ (0x3ff8_0000_0000_0000 ∷ 0x3ff8_0000_0000_0000 ∷ 6 ∷ 4 ∷ []) ∷ (0x3ff0_0000_0000_0000 ∷ 0x3ff0_0000_0000_0000 ∷ 7 ∷ 9 ∷ [])
+    ∷ (0x3fe8_0000_0000_0000 ∷ 0x3fe8_0000_0000_0000 ∷ 7 ∷ 4 ∷ []) ∷ (10 ∷ 0 ∷ 3 ∷ 0 ∷ [])
+    ∷ (0x3fd0_0000_0000_0000 ∷ 0x3fd0_0000_0000_0000 ∷ 29 ∷ 4 ∷ []) ∷ (10 ∷ 0 ∷ 3 ∷ 0 ∷ [])
     ∷ (1 ∷ []) ∷ (0 ∷ [])
+    ∷ (0 ∷ []) ∷ (1 ∷ [])
+    ∷ (6 ∷ 7 ∷ []) ∷ (7 ∷ 7 ∷ [])
     ∷ (0x3ff0_0400_0000_0000 ∷ 0x3ff0_0000_0000_0000 ∷ []) ∷ (0x3fef_f800_0000_0000 ∷ 0x3ff0_0000_0000_0000 ∷ [])
-    ∷ (0x3ff0_0000_0000_0000 ∷ 0x3ff0_0000_0000_0000 ∷ replicate 6 0)
+    ∷ (0x3ff0_0000_0000_0000 ∷ 0x3ff0_0000_0000_0000 ∷ replicate 6 0 ++ 5 ∷ 6 ∷ [])
     ∷ []

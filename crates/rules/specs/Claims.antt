@@ -1,5 +1,5 @@
 -- Demand 3: the claim about every list of calls on a newly opened search, stated whole.
-use Rattle.std.specs.Prelude.{◌≡◌, ◌↔◌, true, false, cond, ◌&&◌, ℕ, ◌+◌, ◌*◌, ◌<◌, ◌≤◌, length, get_or, take, eqb, Float, Ok}
+use Rattle.std.specs.Prelude.{◌≡◌, ◌↔◌, true, false, cond, ◌&&◌, ℕ, ◌+◌, ◌-◌, ◌*◌, ◌<◌, ◌≤◌, length, get_or, take, eqb, Float, Ok}
 use mathlib.Core.List.{List, [], ◌∷◌, ◌++◌, map, Memᴰ}
 use mathlib.Core.Logic.{◌⊎◌}
 use Rattle.std.specs.Float.{nan}
@@ -9,6 +9,7 @@ use Rattle.rules.specs.Trial.{axis, target, trial}
 use Rattle.rules.specs.Stop.{total}
 use Rattle.rules.specs.View.{is_ended}
 use Rattle.rules.specs.Count.{count_in}
+use Rattle.rules.specs.Accept.{gathered_of}
 use Rattle.rules.specs.Calls.{standing_of, showing, asking, telling}
 use Rattle.rules.specs.History.{Event, told, run, costs_in, joins, reading, EarliestLeast}
 use Rattle.rules.specs.Tally.{made, others, probes_in, open_in, readings_by, Ends, EndsIn}
@@ -21,6 +22,17 @@ use Rattle.rules.specs.declared.Trial.{Trial}
 use Rattle.rules.specs.declared.Asked.{Asked}
 use Rattle.rules.specs.declared.Setup.{Setup}
 use Rattle.rules.specs.declared.Search.{Search}
+
+-- v is the accepted reading that its number says: "hold the number of the reading that gave their cost", and this "of that very reading"
+pub record IsRead (o : Search) (h : List Event) (v : Vertex) : Type 0 where
+  pub from_1 : 1 ≤ v.number
+  pub accepted : v.number ≤ length (costs_in h)
+  pub very : v ≡ reading o h (v.number - 1)
+
+-- v is "the earliest least reading"
+pub record IsBest (o : Search) (h : List Event) (v : Vertex) : Type 0 where
+  pub read : IsRead o h v
+  pub least : EarliestLeast (costs_in h) (v.number - 1)
 
 -- the point x lies within the limits of each axis, by the clamp's own comparisons
 abbrev pub Within : Setup → List Float → Type 0
@@ -68,14 +80,16 @@ pub record Claims (o : Search) (h : List Event) (s : Search) : Type 0 where
   pub asks : is_ended s.phase ≡ false → asking s ≡ Ok (record { number = length (costs_in h) + 1; trial = trial (run o h) })
   -- order: "Vertices are ordered by cost, lowest first"
   pub sorted : Ordered (standing_of s)
-  -- vertices: the simplex is empty before the first build ends, n + 1 vertices afterwards, and each is an accepted reading
+  -- vertices: the simplex is empty before the first build ends, n + 1 vertices afterwards, and each is the accepted reading of its number;
+  -- so is each vertex that an unfinished build or iteration has gathered
   pub places : length (standing_of s) ≡ cond (eqb (made Build o h) 0) 0 (o.setup.n + 1)
-  pub vertices : (v : Vertex) → Memᴰ v (standing_of s) → (k : ℕ) × (k < length (costs_in h)) × (v ≡ reading o h k)
-  -- best: "the earliest least reading"
-  pub best : 0 < length (costs_in h) → (k : ℕ) × EarliestLeast (costs_in h) k × (showing s ≡ Ok (reading o h k))
-  -- first vertex: at the end of every build and iteration it is the earliest least of the readings till then
+  pub vertices : (v : Vertex) → Memᴰ v (standing_of s) → IsRead o h v
+  pub gathered : (v : Vertex) → Memᴰ v (gathered_of s) → IsRead o h v
+  -- best: "the earliest least reading", with its number
+  pub best : 0 < length (costs_in h) → (v : Vertex) × IsBest o h v × (showing s ≡ Ok v)
+  -- first vertex: at the end of every build and iteration it is the earliest least of the readings till then, with its number
   pub first : (before : List Event) (e : Event) (since : List Event) → h ≡ before ++ e ∷ since → Ends o before e
-      → (k : ℕ) × EarliestLeast (costs_in (before ++ e ∷ [])) k × (take 1 (standing_of (run o (before ++ e ∷ []))) ≡ reading o h k ∷ [])
+      → let till = before ++ e ∷ [] in (v : Vertex) × IsBest o till v × (take 1 (standing_of (run o till)) ≡ v ∷ [])
   -- "The equation's numbers are those that the search carries, each equal to its count by the rules over the history; readings
   -- equals the number of costs there"
   pub readings : s.readings ≡ length (costs_in h)

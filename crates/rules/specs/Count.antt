@@ -45,7 +45,7 @@ no_counts = counts_by (λ q. 0) 0 0
 
 -- one reading told in phase p more, in Probes or in Open
 abbrev pub told_in : Phase → Counts → Counts
-told_in p c = counts_by (λ q. count_in q c) (c.probes + is_probe p) (c.unfinished + open_by p c.builds)
+told_in p c = counts_by (λ q. count_in q c) (c.probes + is_probe p) (c.unfinished + open_by p)
 
 -- "each counts finished ones": one p more, and what was open is closed
 abbrev pub counted : Piece → Counts → Counts

@@ -26,6 +26,10 @@ fn s = get_or s.standing.costs (s.setup.n - 1) 0
 abbrev pub fw : Search → ℕ
 fw s = get_or s.standing.costs s.setup.n 0
 
+-- "cost fr": while e or a contraction is asked, r is the first of the gathered vertices
+abbrev pub fr : Search → ℕ
+fr s = get_or s.gathered.costs 0 0
+
 -- trial i is the last of a build or a shrink
 abbrev pub is_last : ℕ → Search → Bool
 is_last i s = eqb i s.setup.n
@@ -34,26 +38,26 @@ is_last i s = eqb i s.setup.n
 abbrev pub is_full : ℕ → Search → Bool
 is_full p s = eqb (p + 1) (2 * s.setup.n)
 
--- the first row: "fr < f1"
+-- the first row: "fr < f1", c being the cost that is told for r, here and in the next two
 abbrev pub row1 : ℕ → Search → Bool
-row1 fr s = ltb fr (f1 s)
+row1 c s = ltb c (f1 s)
 
 -- the second row: "f1 ≤ fr < fn", the first being tried before
 abbrev pub row2 : ℕ → Search → Bool
-row2 fr s = ltb fr (fn s)
+row2 c s = ltb c (fn s)
 
 -- the third row: "fn ≤ fr < fw", the second being tried before; the fourth is what is left, "fr ≥ fw"
 abbrev pub row3 : ℕ → Search → Bool
-row3 fr s = ltb fr (fw s)
+row3 c s = ltb c (fw s)
 
 -- "take e if fe < fr"
-abbrev pub wins_expanded : ℕ → ℕ → Search → Bool
-wins_expanded fr fe s = ltb fe fr
+abbrev pub wins_expanded : ℕ → Search → Bool
+wins_expanded fe s = ltb fe (fr s)
 
 -- the third row's "take it if fc ≤ fr", and the fourth's "take it if fc < fw"
-abbrev pub wins : Side → ℕ → ℕ → Search → Bool
-wins Outside fr fc s = leb fc fr
-wins Inside fr fc s = ltb fc (fw s)
+abbrev pub wins : Side → ℕ → Search → Bool
+wins Outside fc s = leb fc (fr s)
+wins Inside fc s = ltb fc (fw s)
 
 -- "The first reading lower than b's ends the round"
 abbrev pub ends_round : ℕ → Search → Bool
@@ -62,15 +66,15 @@ ends_round f s = ltb f s.best.cost
 -- what the cost f decides when it is told in each phase
 unfoldable pub decided : Phase → Search → ℕ → Decision
 decided (Building i) s f = cond (is_last i s) (Stand Build) (Go Joined (Building (i + 1)))
-decided Reflecting s fr =
+decided Reflecting s f =
     -- "ask e"; "take r"; "ask outside point"; "ask inside point"
-    cond (row1 fr s) (Go Nothing (Expanding fr))
-    (cond (row2 fr s) (Take Reflection Latest)
-    (cond (row3 fr s) (Go Nothing (Contracting Outside fr)) (Go Nothing (Contracting Inside fr))))
+    cond (row1 f s) (Go Joined Expanding)
+    (cond (row2 f s) (Take Reflection Latest)
+    (cond (row3 f s) (Go Joined (Contracting Outside)) (Go Joined (Contracting Inside))))
 -- "take e .., else r"
-decided (Expanding fr) s fe = Take Expansion (cond (wins_expanded fr fe s) Latest (Reflected fr))
+decided Expanding s fe = Take Expansion (cond (wins_expanded fe s) Latest Reflected)
 -- "take it .., else shrink"
-decided (Contracting side fr) s fc = cond (wins side fr fc s) (Take Contraction Latest) (Go First (Shrinking 1))
+decided (Contracting side) s fc = cond (wins side fc s) (Take Contraction Latest) (Go First (Shrinking 1))
 -- "the simplex is replaced when all n are told"
 decided (Shrinking j) s f = cond (is_last j s) (Stand Shrink) (Go Joined (Shrinking (j + 1)))
 -- "a restart builds around that point"; "If all 2n are told and none is lower, the search ends settled"

@@ -69,9 +69,10 @@ before_cost k [] = []
 before_cost zero (told c ∷ es) = []
 before_cost (suc k) (told c ∷ es) = told c ∷ before_cost k es
 
--- "reading k is trial k with that cost", k counted from 0: the trial is "the point that the rules ask just before" it joins
+-- "reading k is trial k with that cost", k counted from 0: the trial is "the point that the rules ask just before" it joins. Its number counts
+-- from 1, after those that o has read
 abbrev pub reading : Search → List Event → ℕ → Vertex
-reading o h k = record { point = (trial (run o (before_cost k h))).point; cost = get_or (costs_in h) k 0 }
+reading o h k = record { point = (trial (run o (before_cost k h))).point; cost = get_or (costs_in h) k 0; number = o.readings + k + 1 }
 
 -- "The earliest least reading", number k from 0 of these costs: "no reading is lower, and every earlier one is higher"
 pub record EarliestLeast (cs : List ℕ) (k : ℕ) : Type 0 where

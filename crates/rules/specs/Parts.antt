@@ -26,6 +26,10 @@ carries s =
     s.readings ∷ s.counts.builds ∷ s.counts.reflections ∷ s.counts.expansions ∷ s.counts.contractions ∷ s.counts.shrinks ∷ s.counts.probes
     ∷ s.counts.unfinished ∷ s.best.cost ∷ s.standing.costs ++ s.gathered.costs
 
+-- the best's number; the numbers at the nine standing places, and at the nine gathered ones
+abbrev pub remembers : Search → List ℕ
+remembers s = s.best.number ∷ s.standing.numbers ++ s.gathered.numbers
+
 -- the numbers that the rules give
 unfoldable pub parts_given : List (List ℕ)
 parts_given =
@@ -60,13 +64,46 @@ parts_stated =
     ∷ (1 ∷ 0 ∷ 0 ∷ 0 ∷ 0 ∷ 0 ∷ 0 ∷ 0 ∷ 40 ∷ (replicate 9 0) ++ (40 ∷ replicate 8 0))
     ∷ (2 ∷ 0 ∷ 0 ∷ 0 ∷ 0 ∷ 0 ∷ 0 ∷ 1 ∷ 40 ∷ (replicate 9 0) ++ (40 ∷ 60 ∷ replicate 7 0))
     ∷ (3 ∷ 1 ∷ 0 ∷ 0 ∷ 0 ∷ 0 ∷ 0 ∷ 0 ∷ 40 ∷ (40 ∷ 60 ∷ 80 ∷ replicate 6 0) ++ (replicate 9 0))
-    ∷ (4 ∷ 1 ∷ 0 ∷ 0 ∷ 0 ∷ 0 ∷ 0 ∷ 1 ∷ 30 ∷ (40 ∷ 60 ∷ 80 ∷ replicate 6 0) ++ (replicate 9 0))
+    ∷ (4 ∷ 1 ∷ 0 ∷ 0 ∷ 0 ∷ 0 ∷ 0 ∷ 1 ∷ 30 ∷ (40 ∷ 60 ∷ 80 ∷ replicate 6 0) ++ (30 ∷ replicate 8 0))
     ∷ (10 ∷ 1 ∷ 1 ∷ 2 ∷ 1 ∷ 0 ∷ 0 ∷ 0 ∷ 15 ∷ (15 ∷ 18 ∷ 19 ∷ replicate 6 0) ++ (replicate 9 0))
     ∷ (15 ∷ 1 ∷ 1 ∷ 2 ∷ 2 ∷ 0 ∷ 0 ∷ 3 ∷ 15 ∷ (15 ∷ 18 ∷ 18 ∷ replicate 6 0) ++ (15 ∷ 17 ∷ replicate 7 0))
     ∷ (16 ∷ 1 ∷ 1 ∷ 2 ∷ 2 ∷ 1 ∷ 0 ∷ 0 ∷ 12 ∷ (12 ∷ 15 ∷ 17 ∷ replicate 6 0) ++ (replicate 9 0))
     ∷ (5 ∷ 1 ∷ 0 ∷ 0 ∷ 0 ∷ 0 ∷ 2 ∷ 0 ∷ 10 ∷ (10 ∷ 11 ∷ 11 ∷ replicate 6 0) ++ (replicate 9 0))
     ∷ (7 ∷ 1 ∷ 0 ∷ 0 ∷ 0 ∷ 0 ∷ 4 ∷ 0 ∷ 9 ∷ (10 ∷ 11 ∷ 11 ∷ replicate 6 0) ++ (9 ∷ replicate 8 0))
     ∷ (8 ∷ 1 ∷ 0 ∷ 0 ∷ 0 ∷ 0 ∷ 4 ∷ 1 ∷ 9 ∷ (10 ∷ 11 ∷ 11 ∷ replicate 6 0) ++ (9 ∷ 10 ∷ replicate 7 0))
+    ∷ []
+
+-- the numbers that the rules give
+unfoldable pub numbers_given : List (List ℕ)
+numbers_given =
+    -- as opened; after the first reading; after the first build
+    remembers (at odd odd_costs 0) ∷ remembers (at odd odd_costs 1) ∷ remembers (at odd odd_costs 3)
+    -- while e is asked; e is taken; while the next e is asked; r is taken after it; the next r is taken at once
+    ∷ remembers (at odd odd_costs 4) ∷ remembers (at odd odd_costs 5) ∷ remembers (at odd odd_costs 6) ∷ remembers (at odd odd_costs 7)
+    ∷ remembers (at odd odd_costs 8)
+    -- while an outside point is asked; it is taken; while an inside point is asked; it is taken, after its equal
+    ∷ remembers (at odd odd_costs 9) ∷ remembers (at odd odd_costs 10) ∷ remembers (at odd odd_costs 11) ∷ remembers (at odd odd_costs 12)
+    -- while an inside point is asked that is not taken; the shrink begins; amid it; after it
+    ∷ remembers (at odd odd_costs 13) ∷ remembers (at odd odd_costs 14) ∷ remembers (at odd odd_costs 15) ∷ remembers (at odd odd_costs 16)
+    -- after a build with two equal costs; a probe equal to the best; a lower one, around which a build begins; amid that build; after it
+    ∷ remembers (at rounds rounds_costs 3) ∷ remembers (at rounds rounds_costs 6) ∷ remembers (at rounds rounds_costs 7)
+    ∷ remembers (at rounds rounds_costs 8) ∷ remembers (at rounds rounds_costs 9)
+    ∷ []
+
+-- what document 02 says of each, in this order: each vertex has the place in `odd_costs` or `rounds_costs`, from 1, of its own cost
+unfoldable pub numbers_stated : List (List ℕ)
+numbers_stated =
+    (0 ∷ (replicate 9 0) ++ (replicate 9 0)) ∷ (1 ∷ (replicate 9 0) ++ (1 ∷ replicate 8 0)) ∷ (1 ∷ (1 ∷ 2 ∷ 3 ∷ replicate 6 0) ++ (replicate 9 0))
+    ∷ (4 ∷ (1 ∷ 2 ∷ 3 ∷ replicate 6 0) ++ (4 ∷ replicate 8 0)) ∷ (5 ∷ (5 ∷ 1 ∷ 2 ∷ replicate 6 0) ++ (replicate 9 0))
+    ∷ (6 ∷ (5 ∷ 1 ∷ 2 ∷ replicate 6 0) ++ (6 ∷ replicate 8 0)) ∷ (6 ∷ (6 ∷ 5 ∷ 1 ∷ replicate 6 0) ++ (replicate 9 0))
+    ∷ (6 ∷ (6 ∷ 8 ∷ 5 ∷ replicate 6 0) ++ (replicate 9 0))
+    ∷ (6 ∷ (6 ∷ 8 ∷ 5 ∷ replicate 6 0) ++ (9 ∷ replicate 8 0)) ∷ (6 ∷ (6 ∷ 8 ∷ 10 ∷ replicate 6 0) ++ (replicate 9 0))
+    ∷ (6 ∷ (6 ∷ 8 ∷ 10 ∷ replicate 6 0) ++ (11 ∷ replicate 8 0)) ∷ (6 ∷ (6 ∷ 8 ∷ 12 ∷ replicate 6 0) ++ (replicate 9 0))
+    ∷ (6 ∷ (6 ∷ 8 ∷ 12 ∷ replicate 6 0) ++ (13 ∷ replicate 8 0)) ∷ (6 ∷ (6 ∷ 8 ∷ 12 ∷ replicate 6 0) ++ (6 ∷ replicate 8 0))
+    ∷ (6 ∷ (6 ∷ 8 ∷ 12 ∷ replicate 6 0) ++ (6 ∷ 15 ∷ replicate 7 0)) ∷ (16 ∷ (16 ∷ 6 ∷ 15 ∷ replicate 6 0) ++ (replicate 9 0))
+    ∷ (2 ∷ (2 ∷ 1 ∷ 3 ∷ replicate 6 0) ++ (replicate 9 0)) ∷ (2 ∷ (2 ∷ 1 ∷ 3 ∷ replicate 6 0) ++ (replicate 9 0))
+    ∷ (7 ∷ (2 ∷ 1 ∷ 3 ∷ replicate 6 0) ++ (7 ∷ replicate 8 0)) ∷ (7 ∷ (2 ∷ 1 ∷ 3 ∷ replicate 6 0) ++ (7 ∷ 8 ∷ replicate 7 0))
+    ∷ (7 ∷ (7 ∷ 8 ∷ 9 ∷ replicate 6 0) ++ (replicate 9 0))
     ∷ []
 
 -- the tally of the history that these costs are: finished builds, reflections, expansions, contractions and shrinks; the other iterations; probe
@@ -94,11 +131,11 @@ tallies_stated =
 abbrev pub run_of : Simplex → List ℕ
 run_of s = map (to_bits binary64) s.points
 
--- the standing and the gathered run amid a shrink, by the rules
+-- the standing and the gathered run amid a shrink, and the gathered run while a contraction is asked, by the rules
 unfoldable pub runs_given : List (List ℕ)
-runs_given = run_of (at odd odd_costs 15).standing ∷ run_of (at odd odd_costs 15).gathered ∷ []
+runs_given = run_of (at odd odd_costs 15).standing ∷ run_of (at odd odd_costs 15).gathered ∷ run_of (at odd odd_costs 9).gathered ∷ []
 
--- "one flat run of 72 numbers": the vertices in cost order, zeros after them; the gathered ones are x1 and the first shrunk point
+-- "one flat run of 72 numbers": the vertices in cost order, zeros after them; the gathered ones are x1 and the first shrunk point; r alone
 unfoldable pub runs_stated : List (List ℕ)
 runs_stated =
     ((0x3fd3_6738_1d7d_bf4a ∷ 0xbff8_b261_7c1b_da50 ∷ replicate 6 0)
@@ -108,11 +145,12 @@ runs_stated =
     ∷ ((0x3fd3_6738_1d7d_bf4a ∷ 0xbff8_b261_7c1b_da50 ∷ replicate 6 0)
     ++ (0x3fe6_6ce8_101f_31f5 ∷ 0xc001_6c0d_b270_2a34 ∷ replicate 6 0)
     ++ replicate 56 0)
+    ∷ ((0x3fdc_0598_17b9_5a2a ∷ 0xc002_4ea4_97fa_5d28 ∷ replicate 6 0) ++ replicate 64 0)
     ∷ []
 
--- a simplex with no vertex: 72 zeros and nine
+-- a simplex with no vertex: 72 zeros, nine and nine
 abbrev pub empty : Simplex
-empty = record { points = replicate 72 (bits 0); costs = replicate 9 0 }
+empty = record { points = replicate 72 (bits 0); costs = replicate 9 0; numbers = replicate 9 0 }
 
 -- "a closed search: ended with cause budget, all zero, its rule spread 0", every part written out
 unfoldable pub closed_stated : Search
@@ -131,6 +169,6 @@ closed_stated =
       gathered = empty;
       center = replicate 8 (bits 0);
       readings = 0;
-      best = record { point = replicate 8 (bits 0); cost = 0 };
+      best = record { point = replicate 8 (bits 0); cost = 0; number = 0 };
       counts = record { builds = 0; reflections = 0; expansions = 0; contractions = 0; shrinks = 0; probes = 0; unfinished = 0 };
     }

@@ -1,7 +1,7 @@
 -- "Counts": the finished pieces, probes and open readings of a history, counted by the rules and apart from what a search carries.
 use Rattle.std.specs.Prelude.{◌≡◌, Bool, true, false, cond, not, ◌&&◌, List, [], ◌∷◌, ◌++◌, ℕ, ◌+◌, ◌*◌, leb, ltb, eqb}
 use Rattle.rules.specs.Count.{same}
-use Rattle.rules.specs.Decide.{f1, fn, fw}
+use Rattle.rules.specs.Decide.{f1, fn, fw, fr}
 use Rattle.rules.specs.History.{Event, told, step, run}
 use Rattle.rules.specs.declared.Phase.{Phase}
 use Rattle.rules.specs.declared.Phase.TheVariants.{Building, Reflecting, Expanding, Contracting, Shrinking, Probing, Ended}
@@ -21,9 +21,9 @@ piece_if false p = []
 abbrev pub ended_by : Phase → Search → ℕ → List Piece
 ended_by (Building i) s c = piece_if (eqb i s.setup.n) Build
 ended_by Reflecting s c = piece_if (not (ltb c (f1 s)) && ltb c (fn s)) Reflection
-ended_by (Expanding f) s c = Expansion ∷ []
-ended_by (Contracting Outside f) s c = piece_if (leb c f) Contraction
-ended_by (Contracting Inside f) s c = piece_if (ltb c (fw s)) Contraction
+ended_by Expanding s c = Expansion ∷ []
+ended_by (Contracting Outside) s c = piece_if (leb c (fr s)) Contraction
+ended_by (Contracting Inside) s c = piece_if (ltb c (fw s)) Contraction
 ended_by (Shrinking j) s c = piece_if (eqb j s.setup.n) Shrink
 ended_by (Probing p) s c = []
 ended_by (Ended cause) s c = []

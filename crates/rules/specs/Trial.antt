@@ -80,9 +80,9 @@ probe_step x v p a = let d = x.step ⊗ probe_factor in cond (eqb (p / 2) a) (co
 abbrev pub target : Search → Phase → ℕ → Float
 target s (Building i) a = build_step (axis s.setup a) (get_or s.center a nan) i a
 target s Reflecting a = away s.setup s.standing.points a
-target s (Expanding f) a = toward_reflected s.setup s.standing.points s.setup.coefficients.chi a
-target s (Contracting Outside f) a = toward_reflected s.setup s.standing.points s.setup.coefficients.beta a
-target s (Contracting Inside f) a = toward_worst s.setup s.standing.points a
+target s Expanding a = toward_reflected s.setup s.standing.points s.setup.coefficients.chi a
+target s (Contracting Outside) a = toward_reflected s.setup s.standing.points s.setup.coefficients.beta a
+target s (Contracting Inside) a = toward_worst s.setup s.standing.points a
 target s (Shrinking j) a = shrunk s.setup s.standing.points j a
 target s (Probing p) a = probe_step (axis s.setup a) (get_or s.best.point a nan) p a
 target s (Ended cause) a = nan

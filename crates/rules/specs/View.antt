@@ -1,5 +1,5 @@
 -- "The phase is one of": what the rules ask of a phase apart from its own trial and its own row. A new phase is placed here once.
-use Rattle.std.specs.Prelude.{Bool, true, false, cond, ◌&&◌, ℕ, eqb}
+use Rattle.std.specs.Prelude.{Bool, true, false, cond, ℕ, eqb}
 use Rattle.rules.specs.declared.Phase.{Phase}
 use Rattle.rules.specs.declared.Phase.TheVariants.{Building, Reflecting, Expanding, Contracting, Shrinking, Probing, Ended}
 use Rattle.rules.specs.declared.View.{View}
@@ -9,8 +9,9 @@ use Rattle.rules.specs.declared.View.TheVariants.{Builds, Iterates, Probes, Over
 abbrev pub view : Phase → View
 view (Building i) = Builds i
 view Reflecting = Iterates 0
-view (Expanding f) = Iterates 0
-view (Contracting side f) = Iterates 0
+-- r is gathered
+view Expanding = Iterates 1
+view (Contracting side) = Iterates 1
 view (Shrinking j) = Iterates j
 view (Probing p) = Probes p
 view (Ended cause) = Over cause
@@ -19,7 +20,7 @@ view (Ended cause) = Over cause
 abbrev pub is_ended : Phase → Bool
 is_ended p = elim (view p) [ Builds i ↦ false | Iterates k ↦ false | Probes q ↦ false | Over cause ↦ true ]
 
--- how many vertices the unfinished build or shrink has gathered
+-- how many vertices the unfinished build or iteration has gathered
 abbrev pub gathered_in : Phase → ℕ
 gathered_in p = elim (view p) [ Builds i ↦ i | Iterates k ↦ k | Probes q ↦ 0 | Over cause ↦ 0 ]
 
@@ -27,7 +28,7 @@ gathered_in p = elim (view p) [ Builds i ↦ i | Iterates k ↦ k | Probes q ↦
 abbrev pub is_probe : Phase → ℕ
 is_probe p = elim (view p) [ Builds i ↦ 0 | Iterates k ↦ 0 | Probes q ↦ 1 | Over cause ↦ 0 ]
 
--- what it adds to Open, after b builds, if it ends no piece: "the readings told in the unfinished iteration or restart build; in the
--- first build it leaves out the first reading"
-abbrev pub open_by : Phase → ℕ → ℕ
-open_by p b = elim (view p) [ Builds i ↦ cond (eqb b 0 && eqb i 0) 0 1 | Iterates k ↦ 1 | Probes q ↦ 0 | Over cause ↦ 0 ]
+-- what it adds to Open if it ends no piece: "the readings told in the unfinished iteration or restart build; in the first build it leaves
+-- out the first reading", which alone is told as trial 0
+abbrev pub open_by : Phase → ℕ
+open_by p = elim (view p) [ Builds i ↦ cond (eqb i 0) 0 1 | Iterates k ↦ 1 | Probes q ↦ 0 | Over cause ↦ 0 ]

@@ -78,10 +78,10 @@ pub enum Phase {
     Building(usize),
     // the reflected point
     Reflecting,
-    // the expanded point, after a reflected one of this cost
-    Expanding(u64),
-    // the contracted point, after a reflected one of this cost
-    Contracting(Side, u64),
+    // the expanded point, r being gathered
+    Expanding,
+    // the contracted point on that side, r being gathered
+    Contracting(Side),
     // the shrunk point for place j, counted from 0, so 1 to n
     Shrinking(usize),
     // probe p of a round, from 0
@@ -94,7 +94,7 @@ pub enum Phase {
 pub enum View {
     // trial i of a build
     Builds(usize),
-    // an iteration, whose shrink has gathered so many vertices
+    // an iteration, which has gathered so many vertices
     Iterates(usize),
     // probe p of a round
     Probes(usize),
@@ -117,16 +117,16 @@ pub enum Piece {
 pub enum Newcomer {
     // the trial told just now
     Latest,
-    // r, told before it at this cost
-    Reflected(u64),
+    // r, told before it
+    Reflected,
 }
 
 // What is gathered where a piece or a probe round goes on.
 #[derive(Clone, Copy)]
 pub enum Keeping {
-    // nothing more: a cost that is needed yet stands in the next phase
+    // nothing more
     Nothing,
-    // the trial, among the vertices gathered before: a build or a shrink that is not at its end
+    // the trial, among the vertices gathered before: a build or a shrink that is not at its end; r alone
     Joined,
     // x1 alone: a shrink begins
     First,
@@ -153,19 +153,21 @@ pub struct Trial {
     pub stops: u64,
 }
 
-// A point with its cost. Coordinates past the axis count are 0.
+// A reading: a point with its cost, and the number, from 1, of the reading that gave it; 0 is no reading. Coordinates past the axis count are 0.
 #[derive(Clone, Copy, Default)]
 pub struct Vertex {
     pub point: [f64; 8],
     pub cost: u64,
+    pub number: u64,
 }
 
 // Nine places in one flat run: coordinate a of place i, both from 0, stands at 8 * i + a. Document 01 names the run of points, so the costs
-// stand beside it.
+// and the numbers stand beside it.
 #[derive(Clone, Copy)]
 pub struct Simplex {
     pub points: [f64; 72],
     pub costs: [u64; 9],
+    pub numbers: [u64; 9],
 }
 
 // Finished builds, reflections, expansions, contractions and shrinks; probe readings; and the readings
@@ -193,7 +195,7 @@ pub struct Setup {
 }
 
 // A search: the standing simplex is that of the last finished build or iteration, the gathered one holds
-// what an unfinished build or shrink has so far, and the center is the point that a build goes around. The best is zeros until there is
+// what an unfinished build or iteration has so far, and the center is the point that a build goes around. The best is zeros until there is
 // a reading, and no Option: document 01 has a closed search all zero.
 #[derive(Clone, Copy)]
 pub struct Search {

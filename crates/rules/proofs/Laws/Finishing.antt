@@ -23,7 +23,7 @@ pieces_by d = option_to_list (finished_by d)
 -- in every phase the tally has those that the decision finishes
 pub ended_decided : (p : Phase) (s : Search) (c : ℕ) → ended_by p s c ≡ pieces_by (decided p s c)
 unfolding decided
-ended_decided (Contracting Outside f) s c = grind (arith, nat_tests)
+ended_decided (Contracting Outside) s c = grind (arith, nat_tests)
 ended_decided p s c = grind (arith, nat_tests)
 
 -- the tally and `view` tell the same phases as those of a probe

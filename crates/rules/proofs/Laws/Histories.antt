@@ -15,13 +15,9 @@ use Rattle.rules.specs.Numbers.{max_cost}
 use Rattle.rules.specs.Simplex.{blank, cost_of}
 use Rattle.rules.specs.View.{is_ended}
 use Rattle.rules.specs.Trial.{trial}
-use Rattle.rules.specs.Accept.{accept}
+use Rattle.rules.specs.Accept.{reading_of, accept}
 use Rattle.rules.specs.History.{Event, told, step, run, costs_in, before_cost, reading}
 use Rattle.rules.specs.Tally.{finishes, pieces, count_of, made}
-
--- the trial of a search with its cost
-abbrev pub reading_of : Search → ℕ → Vertex
-reading_of s c = record { point = (trial s).point; cost = c }
 
 -- the readings that an event is
 abbrev pub read_by : Search → Event → List Vertex
@@ -80,19 +76,32 @@ unfolding readings_of costs_in
 costs_readings_of s [] = refl
 costs_readings_of s (told c ∷ h) = ap (λ (l : List ℕ). c ∷ l) (costs_readings_of (accept s c) h)
 
+-- the first reading
+reading_first : (s : Search) (c : ℕ) (h : List Event) → reading_of s c ≡ reading s (told c ∷ h) 0
+unfolding run costs_in before_cost
+reading_first s c h = let number : s.readings + 1 ≡ s.readings + 0 + 1 = omega arith in λ i. record { point = (trial s).point; cost = c; number = number i }
+
+-- a later one is a reading of what follows the first
+reading_later : (s : Search) (c : ℕ) (h : List Event) (k : ℕ) → reading (accept s c) h k ≡ reading s (told c ∷ h) (suc k)
+unfolding run costs_in before_cost accept
+reading_later s c h k =
+    let u = accept s c in
+    let number : u.readings + k + 1 ≡ s.readings + suc k + 1 = omega arith in
+    λ i. record { point = (trial (run u (before_cost k h))).point; cost = get_or (costs_in h) k 0; number = number i }
+
 pub get_or_readings_of : (s : Search) (h : List Event) (k : ℕ) → k < length (costs_in h) → get_or (readings_of s h) k blank ≡ reading s h k
-unfolding readings_of run costs_in before_cost
+unfolding readings_of costs_in
 get_or_readings_of s [] k l = absurd (not-suc-le-zero l)
-get_or_readings_of s (told c ∷ h) zero l = refl
-get_or_readings_of s (told c ∷ h) (suc k) l = get_or_readings_of (accept s c) h k (le_of_suc-le-suc l)
+get_or_readings_of s (told c ∷ h) zero l = reading_first s c h
+get_or_readings_of s (told c ∷ h) (suc k) l = get_or_readings_of (accept s c) h k (le_of_suc-le-suc l) ∙ reading_later s c h k
 
 pub mem_readings_of : (s : Search) (h : List Event) (v : Vertex) → Memᴰ v (readings_of s h) → (k : ℕ) × (k < length (costs_in h)) × (v ≡ reading s h k)
-unfolding readings_of run costs_in before_cost
+unfolding readings_of costs_in
 mem_readings_of s [] v m = elim m [ ]
 mem_readings_of s (told c ∷ h) v m =
     ⊎_elim
-    (λ e. (0, omega arith, e))
-    (λ n. let r = mem_readings_of (accept s c) h v n in (suc r.0, suc-le-suc r.1, r.2))
+    (λ e. (0, omega arith, e ∙ reading_first s c h))
+    (λ n. let r = mem_readings_of (accept s c) h v n in (suc r.0, suc-le-suc r.1, r.2 ∙ reading_later s c h r.0))
     (Memᴰ.cases_cons m)
 
 -- what comes before a cost does not change with what is told after it

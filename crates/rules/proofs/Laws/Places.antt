@@ -13,7 +13,7 @@ use Rattle.std.proofs.lemmas.List.{places}
 use Rattle.rules.specs.declared.Simplex.{Simplex}
 use Rattle.rules.specs.declared.Vertex.{Vertex}
 use Rattle.rules.specs.Numbers.{max_cost}
-use Rattle.rules.specs.Simplex.{up_to, blank, cost_of, flat, store, pack, place, unpack}
+use Rattle.rules.specs.Simplex.{up_to, blank, cost_of, number_in, flat, store, pack, place, unpack}
 use Rattle.rules.specs.Calls.{all_costs}
 use Rattle.rules.proofs.Laws.Lists.{length_up_to, mem_get_or}
 
@@ -54,7 +54,14 @@ drop_flat (v ∷ vs) (suc i) h =
 -- place i of stored vertices is vertex i
 place_store : (vs : List Vertex) (i : ℕ) → Whole vs → i < length vs → place (store vs) i ≡ get_or vs i blank
 unfolding store flat
-place_store vs i h l = rw (drop_flat vs i h, drop-cons vs i blank l, take_at _ (flat (drop (suc i) vs)) 8 (h _ (mem_get_or vs i blank l)), get_or-map cost_of vs i blank)
+place_store vs i h l =
+    rw (
+      drop_flat vs i h,
+      drop-cons vs i blank l,
+      take_at _ (flat (drop (suc i) vs)) 8 (h _ (mem_get_or vs i blank l)),
+      get_or-map cost_of vs i blank,
+      get_or-map number_in vs i blank,
+    )
 
 -- the first m places of stored vertices are the first m vertices
 unpack_store : (m : ℕ) (vs : List Vertex) → Whole vs → m ≤ length vs → unpack m (store vs) ≡ take m vs
@@ -80,12 +87,21 @@ place_pack vs i h l =
     let k = 9 - length vs in
     place_store (vs ++ replicate k blank) i (whole_padded vs k h) (grind (arith, places)) ∙ get_or_padded vs k i
 
--- the cost at place i of packed vertices is that of vertex i, and a blank one's past the last vertex
+-- a measure of the vertices at the places, the i-th, is that of vertex i, and a blank one's past the last vertex
+measure_pack : (f : Vertex → ℕ) (vs : List Vertex) (i : ℕ) → get_or (map f (vs ++ replicate (9 - length vs) blank)) i (f blank) ≡ f (get_or vs i blank)
+measure_pack f vs i =
+    let k = 9 - length vs in
+    get_or-map f (vs ++ replicate k blank) i blank ∙ ap f (get_or_padded vs k i)
+
+-- so are their costs
 pub cost_pack : (vs : List Vertex) (i : ℕ) → get_or (pack vs).costs i 0 ≡ (get_or vs i blank).cost
 unfolding store
-cost_pack vs i =
-    let k = 9 - length vs in
-    get_or-map cost_of (vs ++ replicate k blank) i blank ∙ ap cost_of (get_or_padded vs k i)
+cost_pack vs i = measure_pack cost_of vs i
+
+-- and their numbers
+pub number_pack : (vs : List Vertex) (i : ℕ) → get_or (pack vs).numbers i 0 ≡ (get_or vs i blank).number
+unfolding store
+number_pack vs i = measure_pack number_in vs i
 
 -- ---- pack after unpack
 
@@ -103,19 +119,28 @@ flat_unpack (suc m) s =
     let e : 8 * suc m ≡ 8 * m + 8 = omega arith in
     rw (e, take-add (8 * m) 8 s.points, flat_append, flat_unpack m s, append-nil)
 
+-- a measure of the vertices at m places, which stands in xs, is the first m of xs
+measure_unpack : (f : Vertex → ℕ) (xs : List ℕ) (s : Simplex) → ((i : ℕ) → f (place s i) ≡ get_or xs i 0) → (m : ℕ) → m ≤ length xs → map f (unpack m s) ≡ take m xs
+unfolding unpack up_to
+measure_unpack f xs s e zero l = refl
+measure_unpack f xs s e (suc m) l = rw (map-append f, measure_unpack f xs s e m (omega arith), e m, take-suc xs m 0 l)
+
 -- the costs of m places are the first m costs
 pub costs_unpack : (m : ℕ) (s : Simplex) → m ≤ length s.costs → map cost_of (unpack m s) ≡ take m s.costs
-unfolding unpack up_to
-costs_unpack zero s l = refl
-costs_unpack (suc m) s l = rw (map-append cost_of, costs_unpack m s (omega arith), take-suc s.costs m 0 l)
+costs_unpack m s l = measure_unpack cost_of s.costs s (λ i. refl) m l
+
+-- their numbers are the first m numbers
+pub numbers_unpack : (m : ℕ) (s : Simplex) → m ≤ length s.numbers → map number_in (unpack m s) ≡ take m s.numbers
+numbers_unpack m s l = measure_unpack number_in s.numbers s (λ i. refl) m l
 
 -- a simplex of nine places is that of its vertices
-pub pack_unpack : (s : Simplex) → length s.points ≡ 72 → length s.costs ≡ 9 → pack (unpack 9 s) ≡ s
+pub pack_unpack : (s : Simplex) → length s.points ≡ 72 → length s.costs ≡ 9 → length s.numbers ≡ 9 → pack (unpack 9 s) ≡ s
 unfolding store unpack
-pack_unpack s p c =
+pack_unpack s p c n =
     let points : flat (unpack 9 s) ≡ s.points = flat_unpack 9 s ∙ take_all 72 s.points (omega arith) in
     let costs : map cost_of (unpack 9 s) ≡ s.costs = costs_unpack 9 s (omega arith) ∙ take_all 9 s.costs (omega arith) in
-    rw (length_up_to (place s) 9, append-nil, points, costs)
+    let numbers : map number_in (unpack 9 s) ≡ s.numbers = numbers_unpack 9 s (omega arith) ∙ take_all 9 s.numbers (omega arith) in
+    rw (length_up_to (place s) 9, append-nil, points, costs, numbers)
 
 -- ---- the costs in range
 

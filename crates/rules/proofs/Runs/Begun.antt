@@ -1,19 +1,24 @@
 -- What is true of the rules over every accepted history of a newly opened search. Assumes nothing.
 use Rattle.std.specs.Prelude.{Option}
-use mathlib.Core.Path.{◌≡◌, refl, sym, ap, ◌∙◌}
+use mathlib.Core.Path.{◌≡◌, refl, sym, ap, ◌∙◌, subst}
 use mathlib.Core.Bool.{cond}
 use mathlib.Core.List.{List, [], Memᴰ}
-use Prim.Native.Nat.{ℕ, ◌+◌, ◌<◌}
+use Prim.Native.Nat.{ℕ, ◌+◌, ◌-◌, ◌<◌}
 use native.Mathlib.Omega.{arith}
 use lib.ListN.{length, length-map}
 use lib.Dec.{eqb}
+use Rattle.std.proofs.lemmas.Bool.Decides.{nat_tests}
+use Rattle.std.proofs.lemmas.Bool.{cond_both}
 use Rattle.rules.specs.Binary64.{0ᶠ}
-use Rattle.rules.specs.Simplex.{cost_of, first_of}
+use Rattle.rules.specs.Simplex.{cost_of, number_in, first_of}
+use Rattle.rules.specs.View.{gathered_in}
 use Rattle.rules.specs.Count.{count_in, no_counts}
 use Rattle.rules.specs.Opening.{fresh}
-use Rattle.rules.specs.Calls.{standing_in, standing_of}
+use Rattle.rules.specs.Accept.{gathered_of}
+use Rattle.rules.specs.Calls.{standing_of}
 use Rattle.rules.specs.History.{Event, run, costs_in, reading, EarliestLeast}
 use Rattle.rules.specs.Tally.{made, probes_in, open_in}
+use Rattle.rules.specs.Claims.{IsRead, IsBest}
 use Rattle.rules.specs.declared.Rule.{Rule}
 use Rattle.rules.specs.declared.Axis.{Axis}
 use Rattle.rules.specs.declared.Coefficients.{Coefficients}
@@ -23,12 +28,13 @@ use Rattle.rules.specs.declared.Search.{Search}
 use Rattle.rules.specs.declared.Piece.{Piece}
 use Rattle.rules.specs.declared.Piece.TheVariants.{Build}
 use Rattle.rules.specs.declared.Phase.TheVariants.{Building}
+use Rattle.rules.proofs.Laws.Lists.{mem_take}
 use Rattle.rules.proofs.Laws.Openings.{Sane}
 use Rattle.rules.proofs.Laws.Histories.{readings_of, Joined, costs_readings_of, get_or_readings_of, mem_readings_of}
 use Rattle.rules.proofs.Steps.Invariant.{Best, Inv}
 use Rattle.rules.proofs.Steps.Noting.{best_mem}
 use Rattle.rules.proofs.Steps.Counting.{count_by}
-use Rattle.rules.proofs.Steps.Stepping.{BelowBudget, standing_many, standing_list}
+use Rattle.rules.proofs.Steps.Stepping.{BelowBudget, standing_list, gathered_list}
 use Rattle.rules.proofs.Runs.Running.{Ran, ran, fresh_inv, fresh_below}
 
 -- a search as an opening gives it: nothing told, nothing counted
@@ -77,19 +83,47 @@ module _ (o : Search) (begun : Begun o) where
 
     pub run_places : length (standing_of (run o h)) ≡ cond (eqb (made Build o h) 0) 0 (o.setup.n + 1)
     run_places =
-        rw (run_standing, ← run_counts Build) (standing_many run_inv.stands ∙ ap (λ (t : Setup). standing_in t.n (run o h).counts.builds) whole_run.kept)
+        rw run_standing
+        (cond_both (eqb (made Build o h) 0) _ _ (λ (m : ℕ). length run_inv.vs ≡ m)
+        (λ e. ap length (run_inv.stands.none (run_counts Build ∙ grind (arith, nat_tests))))
+        (λ e. run_inv.stands.all (grind (arith, nat_tests, run_counts Build)) ∙ ap (λ (t : Setup). t.n + 1) whole_run.kept))
 
-    pub run_vertices : (v : Vertex) → Memᴰ v (standing_of (run o h)) → (k : ℕ) × (k < length (costs_in h)) × (v ≡ reading o h k)
-    run_vertices v m = mem_readings_of o h v (run_inv.stands.known v (rw run_standing at m))
+    -- reading k, from 0, has the number k + 1
+    numbered : (k : ℕ) (v : Vertex) → v ≡ reading o h k → v.number ≡ k + 1
+    numbered k v e = let first : o.readings ≡ 0 = begun.inv.noted.told in ap number_in e ∙ omega arith
+
+    -- one of the readings is that of its number
+    is_read : (v : Vertex) → Memᴰ v (readings_of o h) → IsRead o h v
+    is_read v m =
+        let r = mem_readings_of o h v m in
+        let number = numbered r.0 v r.2 in
+        let k : r.0 ≡ v.number - 1 = omega arith in
+        record { from_1 = omega arith; accepted = omega (arith, r.1); very = subst (λ (j : ℕ). v ≡ reading o h j) k r.2 }
+
+    -- each vertex that stands
+    pub run_vertices : (v : Vertex) → Memᴰ v (standing_of (run o h)) → IsRead o h v
+    run_vertices v m = is_read v (run_inv.stands.known v (rw run_standing at m))
+
+    -- and each that is gathered
+    pub run_gathered : (v : Vertex) → Memᴰ v (gathered_of (run o h)) → IsRead o h v
+    run_gathered v m =
+        let among = mem_take (gathered_in (run o h).phase) run_inv.gs (rw (gathered_list (readings_of o h) (run o h) run_inv) at m) in
+        is_read v (run_inv.gathers.known v among)
 
     -- ---- the best
 
-    pub run_best : 0 < length (costs_in h) → (k : ℕ) × EarliestLeast (costs_in h) k × ((run o h).best ≡ reading o h k)
-    run_best l =
-        let b : Best (readings_of o h) (run o h).best = run_inv.noted.least (omega (arith, run_readings)) in
-        let e : EarliestLeast (costs_in h) b.0 = rw (costs_readings_of o h) at b.1 in
-        (b.0, e, sym b.2 ∙ get_or_readings_of o h b.0 e.told)
+    module _ (l : 0 < length (costs_in h)) where
+      least : Best (readings_of o h) (run o h).best
+      least = run_inv.noted.least (omega (arith, run_readings))
 
-    -- the best's point has n coordinates and zeros after them
-    pub best_shape : 0 < length (costs_in h) → first_of (run o h).setup.n 0ᶠ (run o h).best.point ≡ (run o h).best.point
-    best_shape l = (run_inv.noted.shapes (run o h).best (best_mem (readings_of o h) (run o h).best (run_inv.noted.least (omega (arith, run_readings))))).shape
+      -- the best is the earliest least reading
+      pub run_best : IsBest o h (run o h).best
+      run_best =
+          let e : EarliestLeast (costs_in h) least.0 = rw (costs_readings_of o h) at least.1 in
+          let number = numbered least.0 (run o h).best (sym least.2 ∙ get_or_readings_of o h least.0 e.told) in
+          let k : least.0 ≡ (run o h).best.number - 1 = omega arith in
+          record { read = is_read (run o h).best (best_mem (readings_of o h) (run o h).best least); least = rw k at e }
+
+      -- the best's point has n coordinates and zeros after them
+      pub best_shape : first_of (run o h).setup.n 0ᶠ (run o h).best.point ≡ (run o h).best.point
+      best_shape = (run_inv.noted.shapes (run o h).best (best_mem (readings_of o h) (run o h).best least)).shape

@@ -16,7 +16,8 @@ use Rattle.rules.specs.Simplex.{first_of}
 use Rattle.rules.specs.Trial.{trial}
 use Rattle.rules.specs.View.{is_ended}
 use Rattle.rules.specs.Calls.{undamaged, ask_verdict, tell_verdict, best_verdict, told_by, asking, telling, showing}
-use Rattle.rules.specs.History.{Call, ask, tell, best, Event, told, after1, after, run, costs_in, joins, history1, history_from, reading, EarliestLeast}
+use Rattle.rules.specs.History.{Call, ask, tell, best, Event, told, after1, after, run, costs_in, joins, history1, history_from}
+use Rattle.rules.specs.Claims.{IsBest}
 use Rattle.rules.specs.declared.Vertex.{Vertex}
 use Rattle.rules.specs.declared.Search.{Search}
 use Rattle.rules.specs.declared.Asked.{Asked}
@@ -79,13 +80,13 @@ module _ (o : Search) (begun : Begun o) (h : List Event) (t : Joined o h) where
 
   -- ---- best
 
-  pub showing_best : 0 < length (costs_in h) → (k : ℕ) × EarliestLeast (costs_in h) k × (showing (run o h) ≡ Ok (reading o h k))
+  pub showing_best : 0 < length (costs_in h) → (v : Vertex) × IsBest o h v × (showing (run o h) ≡ Ok v)
   unfolding showing best_verdict
   showing_best l =
-      let b = run_best o begun h t l in
-      let shape : ◌≡◌ {A = Vertex} (record { point = first_of (run o h).setup.n 0ᶠ (run o h).best.point; cost = (run o h).best.cost }) (run o h).best =
-      λ i. record { point = best_shape o begun h t l i; cost = (run o h).best.cost } in
-      rw (run_undamaged, ne_eqb (run o h).readings 0 (λ e. omega (arith, run_readings o begun h t))) (b.0, b.1, ap (λ (v : Vertex). Ok v) (shape ∙ b.2))
+      let b = (run o h).best in
+      let shape : ◌≡◌ {A = Vertex} (record { point = first_of (run o h).setup.n 0ᶠ b.point; cost = b.cost; number = b.number }) b =
+      λ i. record { point = best_shape o begun h t l i; cost = b.cost; number = b.number } in
+      (b, run_best o begun h t l, rw (run_undamaged, ne_eqb (run o h).readings 0 (λ e. omega (arith, run_readings o begun h t)), shape) refl)
 
   -- ---- one call
 

@@ -11,9 +11,9 @@ use Rattle.std.proofs.lemmas.Bool.{true_from_ne_false}
 use Rattle.rules.specs.View.{is_ended}
 use Rattle.rules.specs.Trial.{target, trial}
 use Rattle.rules.specs.Calls.{standing_of}
-use Rattle.rules.specs.History.{Event, told, run, costs_in, before_cost, reading, EarliestLeast}
+use Rattle.rules.specs.History.{Event, told, run, costs_in, before_cost, reading}
 use Rattle.rules.specs.Tally.{made, others, Ends}
-use Rattle.rules.specs.Claims.{Within, StopsOf, standing_total, FullRound}
+use Rattle.rules.specs.Claims.{IsBest, Within, StopsOf, standing_total, FullRound}
 use Rattle.rules.specs.declared.Vertex.{Vertex}
 use Rattle.rules.specs.declared.Setup.{Setup}
 use Rattle.rules.specs.declared.Search.{Search}
@@ -23,7 +23,7 @@ use Rattle.rules.specs.declared.Cause.TheVariants.{Settled, Budget}
 use Rattle.rules.specs.declared.Piece.{Piece}
 use Rattle.rules.specs.declared.Piece.TheVariants.{Build, Shrink}
 use Rattle.rules.proofs.Laws.Openings.{trial_within, trial_stops}
-use Rattle.rules.proofs.Laws.Histories.{readings_of, Joins, Joined, run_append, run_snoc, costs_in_append, made_append, reading_append, joined_left, joined_right, joined_before, ended_last}
+use Rattle.rules.proofs.Laws.Histories.{readings_of, Joins, Joined, run_append, run_snoc, costs_in_append, made_append, joined_left, joined_right, joined_before, ended_last}
 use Rattle.rules.proofs.Steps.Invariant.{Leads}
 use Rattle.rules.proofs.Steps.Accepting.{event_step}
 use Rattle.rules.proofs.Runs.Running.{ran}
@@ -64,14 +64,12 @@ module _ (o : Search) (begun : Begun o) where
     joins_here = (joined_right o before (e ∷ since) t).0
 
     -- the first vertex at the end of a piece is the earliest least of the readings till then
-    pub run_first : Ends o before e → (k : ℕ) × EarliestLeast (costs_in (before ++ e ∷ [])) k × (take 1 (standing_of (run o (before ++ e ∷ []))) ≡ reading o (before ++ e ∷ since) k ∷ [])
+    pub run_first : Ends o before e → let till = before ++ e ∷ [] in (v : Vertex) × IsBest o till v × (take 1 (standing_of (run o till)) ≡ v ∷ [])
     run_first ends =
         let r = whole_run o begun before (joined_left o before (e ∷ since) t) in
         let g = event_step (readings_of o before) (run o before) r.inv r.below e joins_here in
         let leads : Leads (standing_of (run o (before ++ e ∷ []))) (run o (before ++ e ∷ [])).best = rw (run_snoc o before e) (g.first ends) in
-        let b = run_best o begun (before ++ e ∷ []) joined_here (some_cost o before e ends) in
-        let same : reading o (before ++ e ∷ since) b.0 ≡ reading o (before ++ e ∷ []) b.0 = rw (← split) (reading_append o (before ++ e ∷ []) since b.0 b.1.told) in
-        (b.0, b.1, leads ∙ ap (λ (v : Vertex). v ∷ []) (b.2 ∙ sym same))
+        ((run o (before ++ e ∷ [])).best, run_best o begun (before ++ e ∷ []) joined_here (some_cost o before e ends), leads)
 
     -- the pieces of the whole history are those up to e and those since
     pub made_since : (p : Piece) → made p o (before ++ e ∷ since) ≡ made p o (before ++ e ∷ []) + made p (run o (before ++ e ∷ [])) since

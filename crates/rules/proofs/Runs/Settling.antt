@@ -13,7 +13,7 @@ use Rattle.std.proofs.lemmas.Bool.{cond_both}
 use Rattle.std.proofs.lemmas.List.{places}
 use Rattle.rules.specs.View.{is_ended}
 use Rattle.rules.specs.Decide.{is_full, ends_round, decided}
-use Rattle.rules.specs.Accept.{spent_phase, is_spent, acted, accept}
+use Rattle.rules.specs.Accept.{reading_of, spent_phase, is_spent, acted, accept}
 use Rattle.rules.specs.History.{Event, told, step, run}
 use Rattle.rules.specs.Tally.{probe_in, probe_by}
 use Rattle.rules.specs.Claims.{FullRound}
@@ -25,7 +25,7 @@ use Rattle.rules.specs.declared.Phase.TheVariants.{Building, Probing, Ended}
 use Rattle.rules.specs.declared.Cause.TheVariants.{Settled, Budget}
 use Rattle.rules.specs.declared.Decision.{Decision}
 use Rattle.rules.proofs.Laws.Tests.{spent_elim}
-use Rattle.rules.proofs.Laws.Histories.{reading_of, read_by, Joins, Joined, run_snoc}
+use Rattle.rules.proofs.Laws.Histories.{read_by, Joins, Joined, run_snoc}
 use Rattle.rules.proofs.Steps.Invariant.{Inv}
 use Rattle.rules.proofs.Steps.Noting.{◌▹◌, best_stays}
 use Rattle.rules.proofs.Steps.Stepping.{NoRound, BelowBudget}

@@ -1,7 +1,7 @@
 -- Refusal 12 is never given to a search that an opening and calls have made. Assumes nothing.
 use mathlib.Core.Path.{◌≡◌, refl, ap, ◌∙◌}
 use mathlib.Core.Bool.{true}
-use mathlib.Core.List.{List, map, map-append, Memᴰ}
+use mathlib.Core.List.{List, [], ◌∷◌, map, map-append, Memᴰ}
 use Prim.Native.Nat.{ℕ, ◌*◌, ◌≤◌, ◌<◌}
 use native.Mathlib.Omega.{arith}
 use native.Mathlib.Nat.{mul-le-mul_right}
@@ -30,17 +30,22 @@ unfolding store
 costs_in_order vs places i e l h = rw (e, map-append cost_of, take_at (map cost_of vs) _ i (length-map vs cost_of ∙ l)) (in_order_lem vs h)
 
 module _ (rs : List Vertex) (s : Search) (inv : Inv rs s) where
-  phase_sound : (p : Phase) → At p s.setup s.standing inv.vs inv.gs s.readings s.counts s.best → sound_phase s.setup.n s.counts.builds p ≡ true
-  phase_sound (Building i) h = grind (arith, nat_tests, h.high, h.again)
-  phase_sound (Expanding f) h = grind (arith, nat_tests, inv.noted.low, ap cost_of h.1.reflects)
-  phase_sound (Contracting side f) h = grind (arith, nat_tests, h.1.low)
+  phase_sound : (p : Phase) → At p s.setup inv.vs inv.gs s.readings s.counts s.best → sound_phase s.setup.n s.readings p ≡ true
+  phase_sound (Building i) h = grind (arith, nat_tests, h.high, h.none)
   phase_sound (Shrinking j) h = grind (arith, nat_tests, h.low, h.high)
   phase_sound (Probing p) h = grind (arith, nat_tests, h.2)
   phase_sound p h = refl
 
-  gathered_in_order : (p : Phase) → At p s.setup s.standing inv.vs inv.gs s.readings s.counts s.best → in_order (take (gathered_in p) s.gathered.costs) ≡ true
+  -- one vertex is in order
+  one_in_order : (r : Vertex) → inv.gs ≡ r ∷ [] → in_order (take 1 s.gathered.costs) ≡ true
+  unfolding Ordered
+  one_in_order r e = costs_in_order inv.gs s.gathered 1 inv.gathers.are (ap length e) (rw e (tt, tt))
+
+  gathered_in_order : (p : Phase) → At p s.setup inv.vs inv.gs s.readings s.counts s.best → in_order (take (gathered_in p) s.gathered.costs) ≡ true
   unfolding in_order
   gathered_in_order (Building i) h = costs_in_order inv.gs s.gathered i inv.gathers.are h.many h.sorted
+  gathered_in_order Expanding h = one_in_order s.best h.1.holds
+  gathered_in_order (Contracting side) h = one_in_order h.1.r h.1.holds
   gathered_in_order (Shrinking j) h = costs_in_order inv.gs s.gathered j inv.gathers.are h.many h.sorted
   gathered_in_order p h = refl
 
@@ -53,7 +58,7 @@ module _ (rs : List Vertex) (s : Search) (inv : Inv rs s) where
   sound_live below =
       let t = inv.noted.sane in
       let builds : 1 * s.counts.builds ≤ s.setup.n * s.counts.builds = mul-le-mul_right s.counts.builds t.at_least in
-      let standing : in_order (take (standing_in s.setup.n s.counts.builds) s.standing.costs) ≡ true = costs_in_order inv.vs s.standing _ inv.stands.are (standing_many inv.stands) inv.stands.sorted in
+      let standing : in_order (take (standing_in s.setup.n s.standing) s.standing.costs) ≡ true = costs_in_order inv.vs s.standing _ inv.stands.are (standing_many inv.noted inv.stands) inv.stands.sorted in
       let gathered = gathered_in_order s.phase inv.phase in
       let standing_costs : all_costs s.standing.costs ≡ true = rw inv.stands.are (costs_pack inv.vs (low_costs inv.vs inv.stands.known)) in
       let gathered_costs : all_costs s.gathered.costs ≡ true = rw inv.gathers.are (costs_pack inv.gs (low_costs inv.gs inv.gathers.known)) in

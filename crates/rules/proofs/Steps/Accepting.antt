@@ -3,11 +3,12 @@ use mathlib.Core.Path.{◌≡◌, refl}
 use mathlib.Core.Bool.{false, true≢false}
 use mathlib.Core.List.{List, ◌++◌}
 use Prim.Native.Nat.{ℕ, ◌≤◌}
+use native.Mathlib.Omega.{arith}
 use Rattle.rules.specs.Numbers.{max_cost}
 use Rattle.rules.specs.View.{is_ended}
-use Rattle.rules.specs.Trial.{clamped, target, point_in, trial}
+use Rattle.rules.specs.Trial.{clamped, target, trial}
 use Rattle.rules.specs.Decide.{decided}
-use Rattle.rules.specs.Accept.{accept}
+use Rattle.rules.specs.Accept.{reading_of, accept}
 use Rattle.rules.specs.History.{Event, told, step}
 use Rattle.rules.specs.Tally.{ended_by, finishes, probe_in, probe_by}
 use Rattle.rules.specs.declared.Vertex.{Vertex}
@@ -16,7 +17,7 @@ use Rattle.rules.specs.declared.Phase.{Phase}
 use Rattle.rules.specs.declared.Phase.TheVariants.{Building, Reflecting, Expanding, Contracting, Shrinking, Probing, Ended}
 use Rattle.rules.proofs.Laws.Lists.{length_point, point_again}
 use Rattle.rules.proofs.Laws.Finishing.{ended_decided, probe_viewed}
-use Rattle.rules.proofs.Laws.Histories.{reading_of, read_by, Joins}
+use Rattle.rules.proofs.Laws.Histories.{read_by, Joins}
 use Rattle.rules.proofs.Steps.Invariant.{ReadingShape, At, Inv}
 use Rattle.rules.proofs.Steps.Noting.{◌▹◌, NotedWith, note}
 use Rattle.rules.proofs.Steps.Stepping.{BelowBudget, TakesReading, Goes}
@@ -28,14 +29,14 @@ use Rattle.rules.proofs.Steps.Probing.{probe_step_lem}
 
 module _ (rs : List Vertex) (v : Vertex) (s : Search) (inv : Inv rs s) (after : NotedWith v rs s) (live : is_ended s.phase ≡ false) where
   -- the reading goes as the decision of its phase says
-  advance : (p : Phase) → s.phase ≡ p → v.point ≡ point_in p s → At p s.setup s.standing inv.vs inv.gs s.readings s.counts s.best → Goes rs v s (decided p s v.cost)
-  advance (Building i) now shape h = build_step rs v s inv after live i now h
-  advance Reflecting now shape h = reflect_step rs v s inv after live now h.0 h.1 shape
-  advance (Expanding f) now shape h = expand_step rs v s inv after live f now h.0 h.1
-  advance (Contracting side f) now shape h = contract_step rs v s inv after live side f now h.0 h.1
-  advance (Shrinking j) now shape h = shrink_step rs v s inv after live j now h
-  advance (Probing p) now shape h = probe_step_lem rs v s inv after live p now h.0 h.1 h.2
-  advance (Ended cause) now shape h = absurd (true≢false (rw now at live))
+  advance : (p : Phase) → s.phase ≡ p → At p s.setup inv.vs inv.gs s.readings s.counts s.best → Goes rs v s (decided p s v.cost)
+  advance (Building i) now h = build_step rs v s inv after live i now h
+  advance Reflecting now h = reflect_step rs v s inv after live now h.0 h.1
+  advance Expanding now h = expand_step rs v s inv after live now h.0 h.1
+  advance (Contracting side) now h = contract_step rs v s inv after live side now h.0 h.1
+  advance (Shrinking j) now h = shrink_step rs v s inv after live j now h
+  advance (Probing p) now h = probe_step_lem rs v s inv after live p now h.0 h.1 h.2
+  advance (Ended cause) now h = absurd (true≢false (rw now at live))
 
 -- ---- the accepted reading
 
@@ -44,7 +45,7 @@ trial_shape : (s : Search) (c : ℕ) → s.setup.n ≤ 8 → c ≤ max_cost → 
 unfolding trial
 trial_shape s c l h =
     let f = λ (a : ℕ). clamped s.setup a (target s s.phase a) in
-    record { shape = point_again s.setup.n f; eight = length_point s.setup.n f l; low = h }
+    record { shape = point_again s.setup.n f; eight = length_point s.setup.n f l; low = h; numbered = omega arith }
 
 module _ (rs : List Vertex) (s : Search) (inv : Inv rs s) (below : BelowBudget s) where
   -- an accepted cost takes its reading
@@ -53,7 +54,7 @@ module _ (rs : List Vertex) (s : Search) (inv : Inv rs s) (below : BelowBudget s
   accept_step c live low =
       let v = reading_of s c in
       let after : NotedWith v rs s = note rs s.setup s.readings s.best v inv.noted (trial_shape s c inv.noted.sane.at_most8 low) (below live) in
-      rw (ended_decided s.phase s c, probe_viewed s.phase) (advance rs v s inv after live s.phase refl refl inv.phase)
+      rw (ended_decided s.phase s c, probe_viewed s.phase) (advance rs v s inv after live s.phase refl inv.phase)
 
   -- an event of the history takes its readings
   pub event_step : (e : Event) → Joins s e → TakesReading (rs ++ read_by s e) (finishes s e) (probe_by s e) s (step s e)

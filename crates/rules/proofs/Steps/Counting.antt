@@ -66,12 +66,12 @@ closes Shrink n k c h e = omega arith
 
 -- what a reading told in phase p adds: one to the probes or to the open ones, but the first of all nothing; where it opens none, none is open
 pub record Adds (p : Phase) (readings : ℕ) (c : Counts) : Type 0 where
-  pub one : is_probe p + open_by p c.builds + (1 - readings) ≡ 1
-  pub closed : open_by p c.builds ≡ 0 → c.unfinished ≡ 0
+  pub one : is_probe p + open_by p + (1 - readings) ≡ 1
+  pub closed : open_by p ≡ 0 → c.unfinished ≡ 0
 
 module _ (rs : List Vertex) (s : Search) (inv : Inv rs s) where
-  adds : (p : Phase) → is_ended p ≡ false → At p s.setup s.standing inv.vs inv.gs s.readings s.counts s.best → Adds p s.readings s.counts
-  adds (Building i) live h = record { one = grind (arith, nat_tests, h.first, h.again, h.some); closed = λ e. grind (arith, nat_tests, h.unfinished) }
+  adds : (p : Phase) → is_ended p ≡ false → At p s.setup inv.vs inv.gs s.readings s.counts s.best → Adds p s.readings s.counts
+  adds (Building i) live h = record { one = grind (arith, nat_tests, h.none, h.some); closed = λ e. grind (arith, nat_tests, h.unfinished) }
   adds (Shrinking j) live h = record { one = omega (arith, h.some); closed = λ e. absurd (omega arith) }
   adds (Probing p) live h = record { one = omega (arith, h.0.some); closed = λ e. h.0.unfinished }
   adds (Ended cause) live h = absurd (true≢false live)

@@ -65,26 +65,22 @@ module _ (rs : List Vertex) (v : Vertex) (s : Search) (inv : Inv rs s) (after : 
         stand_step rs v s inv after live p (rw joined_are ending)
 
     -- another trial follows
-    joins : (next : Phase) → At next s.setup s.standing inv.vs (insert v inv.gs) (s.readings + 1) (told_in s.phase s.counts) (best_after s.readings v s.best) → NoRound next
+    joins : (next : Phase) → At next s.setup inv.vs (insert v inv.gs) (s.readings + 1) (told_in s.phase s.counts) (best_after s.readings v s.best) → NoRound next
         → Goes rs v s (Go Joined next)
     joins next here none = go_step rs v s inv after live Joined next (insert v inv.gs) gathers_on here (λ e. none)
 
   -- ---- a build
 
   module _ (i : ℕ) (now : s.phase ≡ Building i) (h : AtBuild i s.setup.n inv.gs s.readings s.counts s.best) where
-    -- where no trial of the build is told yet, it is the first build, and nothing was told before
-    none_yet : i ≡ 0 → s.readings ≡ 0
-    none_yet e = grind (arith, h.again, h.first)
-
     -- the first reading of all is not open, every other one is
     open_built : (told_in s.phase s.counts).unfinished ≡ i
     open_built =
         let probe : is_probe s.phase ≡ 0 = rw now in
-        grind (arith, h.unfinished, h.some, none_yet, (adds_now rs s inv live).one)
+        grind (arith, h.unfinished, h.some, h.none, (adds_now rs s inv live).one)
 
     -- the first is the best
     leads_built : Leads (insert v inv.gs) (best_after s.readings v s.best)
-    leads_built = leads_build i inv.gs v s.best s.readings h.many h.leads h.some none_yet
+    leads_built = leads_build i inv.gs v s.best s.readings h.many h.leads h.some h.none
 
     -- as many are gathered as the phase says
     gathered_built : length inv.gs ≡ gathered_in s.phase
@@ -99,8 +95,7 @@ module _ (rs : List Vertex) (v : Vertex) (s : Search) (inv : Inv rs s) (after : 
           sorted = ordered_insert v inv.gs h.sorted;
           leads = λ m. leads_built;
           unfinished = omega (arith, open_built);
-          first = λ e. omega (arith, h.first e);
-          again = λ m. omega arith;
+          none = λ e. absurd (omega arith);
           some = λ m. omega arith;
         }
 

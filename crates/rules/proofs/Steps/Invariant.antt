@@ -5,8 +5,7 @@ use Prim.Native.Nat.{ℕ, ◌+◌, ◌-◌, ◌*◌, ◌≤◌, ◌<◌}
 use lib.ListN.{length, get_or, take}
 use Rattle.rules.specs.Binary64.{0ᶠ}
 use Rattle.rules.specs.Numbers.{max_cost}
-use Rattle.rules.specs.Simplex.{point, first_of, blank, pack, cost_of, Ordered}
-use Rattle.rules.specs.Trial.{reflected}
+use Rattle.rules.specs.Simplex.{first_of, blank, pack, cost_of, Ordered}
 use Rattle.rules.specs.History.{EarliestLeast}
 use Rattle.rules.specs.Tally.{readings_by}
 use Rattle.rules.specs.declared.Vertex.{Vertex}
@@ -29,11 +28,12 @@ Known vs rs = (v : Vertex) → Memᴰ v vs → Memᴰ v rs
 abbrev pub Leads : List Vertex → Vertex → Type 0
 Leads vs b = take 1 vs ≡ b ∷ []
 
--- a reading is a point of n coordinates, zero after them, with a cost
+-- a reading is a point of n coordinates, zero after them, with a cost and a number
 pub record ReadingShape (n : ℕ) (v : Vertex) : Type 0 where
   pub shape : first_of n 0ᶠ v.point ≡ v.point
   pub eight : length v.point ≡ 8
   pub low : v.cost ≤ max_cost
+  pub numbered : 1 ≤ v.number
 
 -- b is the earliest least of the readings rs
 abbrev pub Best : List Vertex → Vertex → Type 0
@@ -65,11 +65,10 @@ pub record Gathers (rs gs : List Vertex) (gathered : Simplex) : Type 0 where
 abbrev pub Equation : ℕ → ℕ → Counts → Type 0
 Equation n readings c = readings + (1 - readings) ≡ readings_by n c
 
--- between two pieces, or in one whose readings are held by the phase: a simplex stands, nothing is gathered, k readings are open
-pub record Idle (k : ℕ) (gs : List Vertex) (readings : ℕ) (c : Counts) : Type 0 where
+-- outside a build and a shrink: a simplex stands, k readings are open
+pub record Idle (k : ℕ) (readings : ℕ) (c : Counts) : Type 0 where
   pub stood : 1 ≤ c.builds
   pub some : 1 ≤ readings
-  pub empty : gs ≡ []
   pub unfinished : c.unfinished ≡ k
 
 -- i vertices of a build are gathered, and the first is the best
@@ -79,8 +78,7 @@ pub record AtBuild (i : ℕ) (n : ℕ) (gs : List Vertex) (readings : ℕ) (c : 
   pub sorted : Ordered gs
   pub leads : 1 ≤ i → Leads gs best
   pub unfinished : c.unfinished ≡ i - 1
-  pub first : c.builds ≡ 0 → readings ≡ i
-  pub again : 1 ≤ c.builds → 1 ≤ i
+  pub none : i ≡ 0 → readings ≡ 0
   pub some : 1 ≤ i → 1 ≤ readings
 
 -- j vertices of a shrink are gathered, and the first is the best
@@ -94,33 +92,34 @@ pub record AtShrink (j : ℕ) (n : ℕ) (gs : List Vertex) (readings : ℕ) (c :
   pub stood : 1 ≤ c.builds
   pub some : 1 ≤ readings
 
--- the best is the reflected point with cost f, and lower than every standing vertex
-pub record AtExpand (f : ℕ) (t : Setup) (standing : Simplex) (vs : List Vertex) (best : Vertex) : Type 0 where
-  pub reflects : best ≡ record { point = point t.n (reflected t standing.points); cost = f }
-  pub lower : f < (get_or vs 0 blank).cost
+-- r is gathered, is the best, and is lower than every standing vertex
+pub record AtExpand (vs gs : List Vertex) (best : Vertex) : Type 0 where
+  pub holds : gs ≡ best ∷ []
+  pub lower : best.cost < (get_or vs 0 blank).cost
 
 -- what the third and the fourth row know of fr
 abbrev pub RowBound : Side → ℕ → ℕ → Type 0
 RowBound Outside f w = f < w
 RowBound Inside f w = Unit {0}
 
--- the first vertex is the best, and the reflected point of cost f is not lower
-pub record AtContract (side : Side) (f : ℕ) (n : ℕ) (vs : List Vertex) (best : Vertex) : Type 0 where
+-- r is gathered; the first vertex is the best, and r is not lower
+pub record AtContract (side : Side) (n : ℕ) (vs gs : List Vertex) (best : Vertex) : Type 0 where
+  pub r : Vertex
+  pub holds : gs ≡ r ∷ []
   pub leads : Leads vs best
-  pub higher : best.cost ≤ f
-  pub low : f ≤ max_cost
-  pub row : RowBound side f (get_or vs n blank).cost
+  pub higher : best.cost ≤ r.cost
+  pub row : RowBound side r.cost (get_or vs n blank).cost
 
 -- what holds in each phase
-abbrev pub At : Phase → Setup → Simplex → List Vertex → List Vertex → ℕ → Counts → Vertex → Type 0
-At (Building i) t standing vs gs readings c best = AtBuild i t.n gs readings c best
-At Reflecting t standing vs gs readings c best = Idle 0 gs readings c × Leads vs best
-At (Expanding f) t standing vs gs readings c best = Idle 1 gs readings c × AtExpand f t standing vs best
-At (Contracting side f) t standing vs gs readings c best = Idle 1 gs readings c × AtContract side f t.n vs best
-At (Shrinking j) t standing vs gs readings c best = AtShrink j t.n gs readings c best
-At (Probing p) t standing vs gs readings c best = Idle 0 gs readings c × Leads vs best × (p < 2 * t.n)
-At (Ended Settled) t standing vs gs readings c best = Unit {0}
-At (Ended Budget) t standing vs gs readings c best = readings ≡ t.budget
+abbrev pub At : Phase → Setup → List Vertex → List Vertex → ℕ → Counts → Vertex → Type 0
+At (Building i) t vs gs readings c best = AtBuild i t.n gs readings c best
+At Reflecting t vs gs readings c best = Idle 0 readings c × Leads vs best
+At Expanding t vs gs readings c best = Idle 1 readings c × AtExpand vs gs best
+At (Contracting side) t vs gs readings c best = Idle 1 readings c × AtContract side t.n vs gs best
+At (Shrinking j) t vs gs readings c best = AtShrink j t.n gs readings c best
+At (Probing p) t vs gs readings c best = Idle 0 readings c × Leads vs best × (p < 2 * t.n)
+At (Ended Settled) t vs gs readings c best = Unit {0}
+At (Ended Budget) t vs gs readings c best = readings ≡ t.budget
 
 -- rs: the readings of s
 pub record Inv (rs : List Vertex) (s : Search) : Type 0 where
@@ -130,4 +129,4 @@ pub record Inv (rs : List Vertex) (s : Search) : Type 0 where
   pub stands : Stands rs vs s.setup s.counts.builds s.standing
   pub gathers : Gathers rs gs s.gathered
   pub equation : Equation s.setup.n s.readings s.counts
-  pub phase : At s.phase s.setup s.standing vs gs s.readings s.counts s.best
+  pub phase : At s.phase s.setup vs gs s.readings s.counts s.best

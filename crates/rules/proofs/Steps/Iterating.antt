@@ -9,13 +9,11 @@ use native.Mathlib.Nat.{not-suc-le-zero}
 use lib.ListN.{length, get_or}
 use Rattle.std.proofs.lemmas.Bool.Decides.{nat_tests}
 use Rattle.std.proofs.lemmas.Bool.{cond_both}
-use Rattle.rules.specs.Numbers.{max_cost}
-use Rattle.rules.specs.Simplex.{blank, place, pack, cost_of, Ordered}
+use Rattle.rules.specs.Simplex.{blank, place, up_to, pack, unpack, insert, cost_of, Ordered}
 use Rattle.rules.specs.View.{is_ended}
-use Rattle.rules.specs.Trial.{point_in}
 use Rattle.rules.specs.Count.{told_in}
-use Rattle.rules.specs.Decide.{f1, fn, row1, row2, row3, wins_expanded, wins, decided}
-use Rattle.rules.specs.Accept.{newcomer, best_after}
+use Rattle.rules.specs.Decide.{f1, fn, fr, row1, row2, row3, wins_expanded, wins, decided}
+use Rattle.rules.specs.Accept.{newcomer, joined, best_after}
 use Rattle.rules.specs.Tally.{count_of}
 use Rattle.rules.specs.declared.Vertex.{Vertex}
 use Rattle.rules.specs.declared.Search.{Search}
@@ -26,12 +24,12 @@ use Rattle.rules.specs.declared.Phase.TheVariants.{Reflecting, Expanding, Contra
 use Rattle.rules.specs.declared.Piece.TheVariants.{Reflection, Expansion, Contraction}
 use Rattle.rules.specs.declared.Newcomer.{Newcomer}
 use Rattle.rules.specs.declared.Newcomer.TheVariants.{Latest, Reflected}
-use Rattle.rules.specs.declared.Keeping.TheVariants.{Nothing, First}
+use Rattle.rules.specs.declared.Keeping.TheVariants.{Joined, First}
 use Rattle.rules.specs.declared.Decision.TheVariants.{Go, Take}
 use Rattle.rules.proofs.Laws.Order.{first_lower, ordered_at}
 use Rattle.rules.proofs.Laws.Places.{place_pack, cost_pack}
-use Rattle.rules.proofs.Steps.Invariant.{Known, Leads, Gathers, Idle, RowBound, AtExpand, AtContract, At, Inv}
-use Rattle.rules.proofs.Steps.Noting.{◌▹◌, NotedWith, best_mem, known_more, known_new, best_falls, best_stays, leads_on}
+use Rattle.rules.proofs.Steps.Invariant.{Leads, Gathers, Idle, RowBound, AtExpand, AtContract, At, Inv}
+use Rattle.rules.proofs.Steps.Noting.{◌▹◌, NotedWith, best_mem, known_more, known_new, known_one, best_falls, best_stays, leads_on}
 use Rattle.rules.proofs.Steps.Stepping.{NoRound, Goes, whole}
 use Rattle.rules.proofs.Steps.Moving.{takes, go_step}
 
@@ -52,6 +50,10 @@ module _ (rs : List Vertex) (v : Vertex) (s : Search) (inv : Inv rs s) (after : 
   carries : (i : ℕ) → get_or s.standing.costs i 0 ≡ (get_or inv.vs i blank).cost
   carries i = rw inv.stands.are (cost_pack inv.vs i)
 
+  -- so is fr, of the first that is gathered
+  carries_r : fr s ≡ (get_or inv.gs 0 blank).cost
+  carries_r = rw inv.gathers.are (cost_pack inv.gs 0)
+
   -- the gathered vertices stay as they are
   pub gathers_more : Gathers (rs ▹ v) inv.gs s.gathered
   gathers_more = record { are = inv.gathers.are; known = known_more inv.gs rs v inv.gathers.known }
@@ -64,27 +66,34 @@ module _ (rs : List Vertex) (v : Vertex) (s : Search) (inv : Inv rs s) (after : 
   in_place : (i : ℕ) → 1 ≤ s.counts.builds → i ≤ s.setup.n → (get_or inv.vs i blank).cost ≤ (get_or inv.vs s.setup.n blank).cost
   in_place i l h = ordered_at inv.vs i s.setup.n inv.stands.sorted h (omega (arith, inv.stands.all l))
 
-  -- the iteration waits for another trial
-  waits : (next : Phase) → At next s.setup s.standing inv.vs inv.gs (s.readings + 1) (told_in s.phase s.counts) (best_after s.readings v s.best) → NoRound next → Goes rs v s (Go Nothing next)
-  waits next here none = go_step rs v s inv after live Nothing next inv.gs gathers_more here (λ e. none)
 
   -- ---- the reflected point
 
-  module _ (now : s.phase ≡ Reflecting) (idle : Idle 0 inv.gs s.readings s.counts) (leads : Leads inv.vs s.best) where
+  module _ (now : s.phase ≡ Reflecting) (idle : Idle 0 s.readings s.counts) (leads : Leads inv.vs s.best) where
     -- f1 is the best cost
     first_cost : f1 s ≡ s.best.cost
     first_cost = carries 0 ∙ ap cost_of (leads_at inv.vs s.best leads)
 
     -- one reading is open now
-    idle_on : Idle 1 inv.gs (s.readings + 1) (told_in s.phase s.counts)
-    idle_on = record { stood = idle.stood; some = omega arith; empty = idle.empty; unfinished = rw now (omega (arith, idle.unfinished)) }
+    idle_on : Idle 1 (s.readings + 1) (told_in s.phase s.counts)
+    idle_on = record { stood = idle.stood; some = omega arith; unfinished = rw now (omega (arith, idle.unfinished)) }
+
+    -- r is gathered alone
+    alone : joined v s ≡ v ∷ []
+    unfolding unpack up_to insert
+    alone = rw now refl
+
+    -- r is gathered, and the iteration waits for another trial
+    waits : (next : Phase) → At next s.setup inv.vs (v ∷ []) (s.readings + 1) (told_in s.phase s.counts) (best_after s.readings v s.best) → NoRound next → Goes rs v s (Go Joined next)
+    waits next here none =
+        go_step rs v s inv after live Joined next (v ∷ []) (record { are = ap pack alone; known = known_one (rs ▹ v) v (known_new rs v) }) here (λ e. none)
 
     -- the first row
-    goes_expanding : v.point ≡ point_in Reflecting s → v.cost < f1 s → Goes rs v s (Go Nothing (Expanding v.cost))
-    goes_expanding shape low =
+    goes_expanding : v.cost < f1 s → Goes rs v s (Go Joined Expanding)
+    goes_expanding low =
         let l : v.cost < s.best.cost = rw first_cost at low in
-        let r : v ≡ newcomer (Reflected v.cost) v s = λ i. record { point = shape i; cost = v.cost } in
-        waits (Expanding v.cost) (idle_on, record { reflects = best_falls s.readings v s.best idle.some l ∙ r; lower = rw (carries 0) at low }) tt
+        let e = best_falls s.readings v s.best idle.some l in
+        waits Expanding (idle_on, record { holds = rw e; lower = rw (e, ← carries 0) low }) tt
 
     -- the second row
     takes_reflected : v.cost < fn s → Goes rs v s (Take Reflection Latest)
@@ -95,21 +104,20 @@ module _ (rs : List Vertex) (v : Vertex) (s : Search) (inv : Inv rs s) (after : 
         (omega (arith, in_place (s.setup.n - 1) idle.stood (omega arith))) (rw now (omega (arith, idle.unfinished))) refl refl
 
     -- the third row and the fourth
-    goes_contracting : (side : Side) → f1 s ≤ v.cost → RowBound side v.cost (get_or inv.vs s.setup.n blank).cost → Goes rs v s (Go Nothing (Contracting side v.cost))
+    goes_contracting : (side : Side) → f1 s ≤ v.cost → RowBound side v.cost (get_or inv.vs s.setup.n blank).cost → Goes rs v s (Go Joined (Contracting side))
     goes_contracting side high row =
         let h : s.best.cost ≤ v.cost = rw first_cost at high in
         let e = best_stays s.readings v s.best idle.some h in
-        let low : v.cost ≤ max_cost = (after.shapes v (known_new rs v)).low in
-        waits (Contracting side v.cost) (idle_on, record { leads = rw e leads; higher = rw e h; low = low; row = row }) tt
+        waits (Contracting side) (idle_on, record { r = v; holds = refl; leads = rw e leads; higher = rw e h; row = row }) tt
 
     -- the table, row by row
-    pub reflect_step : v.point ≡ point_in Reflecting s → Goes rs v s (decided Reflecting s v.cost)
+    pub reflect_step : Goes rs v s (decided Reflecting s v.cost)
     unfolding decided
-    reflect_step shape =
+    reflect_step =
         let f = v.cost in
         let P = Goes rs v s in
         cond_both (row1 f s) _ _ P
-        (λ a. goes_expanding shape (grind (arith, nat_tests)))
+        (λ a. goes_expanding (grind (arith, nat_tests)))
         (λ a.
         cond_both (row2 f s) _ _ P
         (λ b. takes_reflected (grind (arith, nat_tests)))
@@ -120,9 +128,9 @@ module _ (rs : List Vertex) (v : Vertex) (s : Search) (inv : Inv rs s) (after : 
 
   -- ---- the expanded point
 
-  module _ (fr : ℕ) (now : s.phase ≡ Expanding fr) (idle : Idle 1 inv.gs s.readings s.counts) (h : AtExpand fr s.setup s.standing inv.vs s.best) where
+  module _ (now : s.phase ≡ Expanding) (idle : Idle 1 s.readings s.counts) (h : AtExpand inv.vs inv.gs s.best) where
     -- the newcomer u is lower than every vertex, and is the best now
-    takes_lower : (who : Newcomer) → let u = newcomer who v s in Memᴰ u (rs ▹ v) → u.cost ≤ fr → best_after s.readings v s.best ≡ u → Goes rs v s (Take Expansion who)
+    takes_lower : (who : Newcomer) → let u = newcomer who v s in Memᴰ u (rs ▹ v) → u.cost ≤ s.best.cost → best_after s.readings v s.best ≡ u → Goes rs v s (Take Expansion who)
     unfolding count_of
     takes_lower who mem low best =
         let u = newcomer who v s in
@@ -131,23 +139,26 @@ module _ (rs : List Vertex) (v : Vertex) (s : Search) (inv : Inv rs s) (after : 
         takes rs v s inv after live idle.stood Expansion who x mem (leads_self inv.vs (omega (arith, inv.stands.all idle.stood))) (λ us l. rw best (first_lower u x us l first))
         (omega (arith, in_place 0 idle.stood (omega arith))) (rw now (omega (arith, idle.unfinished))) refl refl
 
-    -- the best is r
-    reflected_cost : s.best.cost ≡ fr
-    reflected_cost = ap cost_of h.reflects
+    -- r, as it was gathered, is the best
+    reflected : place s.gathered 0 ≡ s.best
+    reflected =
+        let one : 0 < length inv.gs = rw h.holds (omega arith) in
+        rw inv.gathers.are (place_pack inv.gs 0 (whole inv.noted inv.gathers.known) one ∙ ap (λ (gs : List Vertex). get_or gs 0 blank) h.holds)
 
     -- either point is taken
-    pub expand_step : Goes rs v s (decided (Expanding fr) s v.cost)
+    pub expand_step : Goes rs v s (decided Expanding s v.cost)
     unfolding decided
     expand_step =
-        cond_both (wins_expanded fr v.cost s) _ _ (λ (who : Newcomer). Goes rs v s (Take Expansion who))
-        (λ e. takes_lower Latest (known_new rs v) (grind (arith, nat_tests)) (best_falls s.readings v s.best idle.some (grind (arith, nat_tests, reflected_cost))))
+        let cost : fr s ≡ s.best.cost = ap cost_of reflected in
+        cond_both (wins_expanded v.cost s) _ _ (λ (who : Newcomer). Goes rs v s (Take Expansion who))
+        (λ e. let l : v.cost < s.best.cost = grind (arith, nat_tests) in takes_lower Latest (known_new rs v) (omega arith) (best_falls s.readings v s.best idle.some l))
         (λ e.
-        takes_lower (Reflected fr) (Memᴰ.cast (sym h.reflects) (best_known idle.some)) (omega arith)
-        (best_stays s.readings v s.best idle.some (grind (arith, nat_tests, reflected_cost)) ∙ h.reflects))
+        takes_lower Reflected (Memᴰ.cast reflected (best_known idle.some)) (omega arith)
+        (best_stays s.readings v s.best idle.some (grind (arith, nat_tests)) ∙ sym reflected))
 
   -- ---- the contracted point
 
-  module _ (side : Side) (fr : ℕ) (now : s.phase ≡ Contracting side fr) (idle : Idle 1 inv.gs s.readings s.counts) (h : AtContract side fr s.setup.n inv.vs s.best) where
+  module _ (side : Side) (now : s.phase ≡ Contracting side) (idle : Idle 1 s.readings s.counts) (h : AtContract side s.setup.n inv.vs inv.gs s.best) where
     -- r and the contracted point are open
     open_contracted : (told_in s.phase s.counts).unfinished ≡ 2
     open_contracted = rw now (omega (arith, idle.unfinished))
@@ -168,22 +179,23 @@ module _ (rs : List Vertex) (v : Vertex) (s : Search) (inv : Inv rs s) (after : 
     goes_shrinking : s.best.cost ≤ v.cost → Goes rs v s (Go First (Shrinking 1))
     unfolding Ordered
     goes_shrinking high =
-        let known : Known (s.best ∷ []) (rs ▹ v) = λ w m. Memᴰ.cast (Memᴰ.eq_of_singleton m) (best_known idle.some) in
+        let known = known_one (rs ▹ v) s.best (best_known idle.some) in
         let e = best_stays s.readings v s.best idle.some high in
         go_step rs v s inv after live First (Shrinking 1) (s.best ∷ []) (record { are = ap (λ (x : Vertex). pack (x ∷ [])) kept_best; known = known })
         (record { low = omega arith; high = after.sane.at_least; many = refl; sorted = (tt, tt); leads = rw e; unfinished = open_contracted; stood = idle.stood; some = omega arith }) (λ q. tt)
 
   -- an outside point that is not taken is higher than r, an inside one not lower than the worst
-  pub contract_step : (side : Side) (fr : ℕ) → s.phase ≡ Contracting side fr → Idle 1 inv.gs s.readings s.counts → AtContract side fr s.setup.n inv.vs s.best
-      → Goes rs v s (decided (Contracting side fr) s v.cost)
+  pub contract_step : (side : Side) → s.phase ≡ Contracting side → Idle 1 s.readings s.counts → AtContract side s.setup.n inv.vs inv.gs s.best
+      → Goes rs v s (decided (Contracting side) s v.cost)
   unfolding decided
-  contract_step Outside fr now idle h =
-      cond_both (wins Outside fr v.cost s) _ _ (Goes rs v s)
-      (λ e. takes_contracted Outside fr now idle h (grind (arith, nat_tests, h.row)))
-      (λ e. goes_shrinking Outside fr now idle h (grind (arith, nat_tests, h.higher)))
-  contract_step Inside fr now idle h =
+  contract_step Outside now idle h =
+      let r : fr s ≡ h.r.cost = carries_r ∙ ap (λ (gs : List Vertex). (get_or gs 0 blank).cost) h.holds in
+      cond_both (wins Outside v.cost s) _ _ (Goes rs v s)
+      (λ e. takes_contracted Outside now idle h (grind (arith, nat_tests, h.row)))
+      (λ e. goes_shrinking Outside now idle h (grind (arith, nat_tests, h.higher)))
+  contract_step Inside now idle h =
       let w = carries s.setup.n in
       let q : (get_or inv.vs 0 blank).cost ≡ s.best.cost = ap cost_of (leads_at inv.vs s.best h.leads) in
-      cond_both (wins Inside fr v.cost s) _ _ (Goes rs v s)
-      (λ e. takes_contracted Inside fr now idle h (grind (arith, nat_tests)))
-      (λ e. goes_shrinking Inside fr now idle h (grind (arith, nat_tests, in_place 0 idle.stood (omega arith))))
+      cond_both (wins Inside v.cost s) _ _ (Goes rs v s)
+      (λ e. takes_contracted Inside now idle h (grind (arith, nat_tests)))
+      (λ e. goes_shrinking Inside now idle h (grind (arith, nat_tests, in_place 0 idle.stood (omega arith))))

@@ -85,7 +85,7 @@ module _ (rs : List Vertex) (v : Vertex) (s : Search) (inv : Inv rs s) (after : 
 
   -- the simplex stands as it stood, and no piece is finished
   pub goes : (next : Phase) (gs : List Vertex) (gathered : Simplex) → Gathers (rs ▹ v) gs gathered
-      → At next s.setup s.standing inv.vs gs (s.readings + 1) (told_in s.phase s.counts) (best_after s.readings v s.best) → (is_probe s.phase ≡ 0 → NoRound next)
+      → At next s.setup inv.vs gs (s.readings + 1) (told_in s.phase s.counts) (best_after s.readings v s.best) → (is_probe s.phase ≡ 0 → NoRound next)
       → Parts rs v s s.standing gathered next (told_in s.phase s.counts) []
   unfolding count_of
   goes next gs gathered gathers here none =
@@ -104,6 +104,6 @@ module _ (rs : List Vertex) (v : Vertex) (s : Search) (inv : Inv rs s) (after : 
 
   -- the phase that the decision names comes next
   pub go_step : (keeping : Keeping) (next : Phase) (gs : List Vertex) → Gathers (rs ▹ v) gs (gathered_with keeping v s)
-      → At next s.setup s.standing inv.vs gs (s.readings + 1) (told_in s.phase s.counts) (best_after s.readings v s.best) → (is_probe s.phase ≡ 0 → NoRound next)
+      → At next s.setup inv.vs gs (s.readings + 1) (told_in s.phase s.counts) (best_after s.readings v s.best) → (is_probe s.phase ≡ 0 → NoRound next)
       → Goes rs v s (Go keeping next)
   go_step keeping next gs gathers here none = step rs v s (Go keeping next) next refl after (goes next gs (gathered_with keeping v s) gathers here none)

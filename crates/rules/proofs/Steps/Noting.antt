@@ -36,6 +36,10 @@ known_more vs rs v h w m = Memᴰ.append_left (v ∷ []) (h w m)
 pub known_new : (rs : List Vertex) (v : Vertex) → Memᴰ v (rs ▹ v)
 known_new rs v = Memᴰ.append_right rs (Memᴰ.head refl)
 
+-- one that is known is known by itself
+pub known_one : (rs : List Vertex) (v : Vertex) → Memᴰ v rs → Known (v ∷ []) rs
+known_one rs v m w n = Memᴰ.cast (Memᴰ.eq_of_singleton n) m
+
 -- ---- the best of the readings before and the new one
 
 -- a reading that is lower than the best before it is the best

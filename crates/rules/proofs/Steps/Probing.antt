@@ -20,13 +20,13 @@ use Rattle.rules.specs.declared.Cause.TheVariants.{Settled}
 use Rattle.rules.specs.declared.Keeping.TheVariants.{Nothing}
 use Rattle.rules.specs.declared.Decision.TheVariants.{Go, Restart}
 use Rattle.rules.proofs.Steps.Invariant.{Known, Leads, Idle, AtBuild, At, Inv}
-use Rattle.rules.proofs.Steps.Noting.{◌▹◌, NotedWith, known_new, best_falls, best_stays}
+use Rattle.rules.proofs.Steps.Noting.{◌▹◌, NotedWith, known_new, known_one, best_falls, best_stays}
 use Rattle.rules.proofs.Steps.Stepping.{NoRound, Goes, step}
 use Rattle.rules.proofs.Steps.Moving.{goes, go_step}
 use Rattle.rules.proofs.Steps.Iterating.{gathers_more}
 
 module _ (rs : List Vertex) (v : Vertex) (s : Search) (inv : Inv rs s) (after : NotedWith v rs s) (live : is_ended s.phase ≡ false)
-    (p : ℕ) (now : s.phase ≡ Probing p) (idle : Idle 0 inv.gs s.readings s.counts) (leads : Leads inv.vs s.best) (low : p < 2 * s.setup.n) where
+    (p : ℕ) (now : s.phase ≡ Probing p) (idle : Idle 0 s.readings s.counts) (leads : Leads inv.vs s.best) (low : p < 2 * s.setup.n) where
   -- a probe is never open
   still_closed : (told_in s.phase s.counts).unfinished ≡ 0
   still_closed = rw now (omega (arith, idle.unfinished))
@@ -39,7 +39,6 @@ module _ (rs : List Vertex) (v : Vertex) (s : Search) (inv : Inv rs s) (after : 
   restarts : v.cost < s.best.cost → Goes rs v s Restart
   unfolding Ordered
   restarts l =
-      let known : Known (v ∷ []) (rs ▹ v) = λ w m. Memᴰ.cast (Memᴰ.eq_of_singleton m) (known_new rs v) in
       let e = best_falls s.readings v s.best idle.some l in
       let built : AtBuild 1 s.setup.n (v ∷ []) (s.readings + 1) (told_in s.phase s.counts) (best_after s.readings v s.best) =
       record {
@@ -48,21 +47,20 @@ module _ (rs : List Vertex) (v : Vertex) (s : Search) (inv : Inv rs s) (after : 
         sorted = (tt, tt);
         leads = λ m. rw e;
         unfinished = still_closed;
-        first = λ q. absurd (omega (arith, idle.stood));
-        again = λ m. omega arith;
+        none = λ q. absurd (omega arith);
         some = λ m. omega arith;
       } in
-      step rs v s Restart (Building 1) refl after (goes rs v s inv after live (Building 1) (v ∷ []) (pack (v ∷ [])) (record { are = refl; known = known }) built (is_one (Building 1)))
+      step rs v s Restart (Building 1) refl after (goes rs v s inv after live (Building 1) (v ∷ []) (pack (v ∷ [])) (record { are = refl; known = known_one (rs ▹ v) v (known_new rs v) }) built (is_one (Building 1)))
 
   -- the round goes on, or has settled the search
-  misses : (next : Phase) → At next s.setup s.standing inv.vs inv.gs (s.readings + 1) (told_in s.phase s.counts) (best_after s.readings v s.best) → Goes rs v s (Go Nothing next)
+  misses : (next : Phase) → At next s.setup inv.vs inv.gs (s.readings + 1) (told_in s.phase s.counts) (best_after s.readings v s.best) → Goes rs v s (Go Nothing next)
   misses next here = go_step rs v s inv after live Nothing next inv.gs (gathers_more rs v s inv after live) here (is_one next)
 
   -- a probe that is not lower leads to the next one, or settles the search
   pub probe_step_lem : Goes rs v s (decided (Probing p) s v.cost)
   unfolding decided
   probe_step_lem =
-      let still : Idle 0 inv.gs (s.readings + 1) (told_in s.phase s.counts) = record { stood = idle.stood; some = omega arith; empty = idle.empty; unfinished = still_closed } in
+      let still : Idle 0 (s.readings + 1) (told_in s.phase s.counts) = record { stood = idle.stood; some = omega arith; unfinished = still_closed } in
       let first : s.best.cost ≤ v.cost → Leads inv.vs (best_after s.readings v s.best) = λ l. rw (best_stays s.readings v s.best idle.some l) leads in
       cond_both (ends_round v.cost s) _ _ (Goes rs v s)
       (λ e. restarts (grind (arith, nat_tests)))

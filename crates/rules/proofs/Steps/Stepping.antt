@@ -3,18 +3,17 @@ use mathlib.Core.Path.{◌≡◌, refl, ap}
 use mathlib.Core.Bool.{Bool, false, cond}
 use mathlib.Core.List.Memᴰ
 use mathlib.Core.List.{List, [], ◌∷◌, map}
-use Prim.Native.Nat.{ℕ, suc, ◌+◌, ◌≤◌, ◌<◌}
+use Prim.Native.Nat.{ℕ, zero, suc, ◌+◌, ◌≤◌, ◌<◌}
 use native.Mathlib.Omega.{arith}
-use lib.ListN.{length}
-use lib.Dec.{eqb}
+use lib.ListN.{length, get_or, take}
 use Rattle.std.proofs.lemmas.Bool.Decides.{nat_tests}
 use Rattle.std.proofs.lemmas.Bool.{cond_both}
-use Rattle.rules.specs.Simplex.{pack, unpack, cost_of, Ordered}
-use Rattle.rules.specs.View.{is_ended, is_probe}
+use Rattle.rules.specs.Simplex.{blank, pack, unpack, cost_of, Ordered}
+use Rattle.rules.specs.View.{is_ended, gathered_in, is_probe}
 use Rattle.rules.specs.Count.{told_in, counted}
 use Rattle.rules.specs.Stop.{total}
 use Rattle.rules.specs.Decide.{finished_by}
-use Rattle.rules.specs.Accept.{entrant, replaced, joined, standing_after, gathered_after, is_spent, spent_phase, counts_after, best_after, acted}
+use Rattle.rules.specs.Accept.{entrant, gathered_of, replaced, joined, standing_after, gathered_after, is_spent, spent_phase, counts_after, best_after, acted}
 use Rattle.rules.specs.Calls.{standing_in, standing_of}
 use Rattle.rules.specs.Tally.{count_of, is_open}
 use Rattle.rules.specs.declared.Vertex.{Vertex}
@@ -23,7 +22,7 @@ use Rattle.rules.specs.declared.Counts.{Counts}
 use Rattle.rules.specs.declared.Setup.{Setup}
 use Rattle.rules.specs.declared.Search.{Search}
 use Rattle.rules.specs.declared.Phase.{Phase}
-use Rattle.rules.specs.declared.Phase.TheVariants.{Reflecting, Probing, Ended}
+use Rattle.rules.specs.declared.Phase.TheVariants.{Building, Reflecting, Expanding, Contracting, Shrinking, Probing, Ended}
 use Rattle.rules.specs.declared.Cause.TheVariants.{Settled}
 use Rattle.rules.specs.declared.Piece.{Piece}
 use Rattle.rules.specs.declared.Piece.TheVariants.{Build, Reflection, Expansion, Contraction, Shrink}
@@ -31,7 +30,8 @@ use Rattle.rules.specs.declared.Newcomer.{Newcomer}
 use Rattle.rules.specs.declared.Decision.{Decision}
 use Rattle.rules.specs.declared.Decision.TheVariants.{Take, Stand}
 use Rattle.rules.proofs.Laws.Tests.{spent_elim, spent_ends}
-use Rattle.rules.proofs.Laws.Places.{Whole, unpack_pack}
+use Rattle.rules.proofs.Laws.Lists.{mem_get_or}
+use Rattle.rules.proofs.Laws.Places.{Whole, unpack_take, unpack_pack, number_pack}
 use Rattle.rules.proofs.Laws.Finishing.{pieces_by}
 use Rattle.rules.proofs.Steps.Invariant.{Known, Leads, Noted, Stands, Gathers, Equation, Idle, At, Inv}
 use Rattle.rules.proofs.Steps.Noting.{◌▹◌, NotedWith}
@@ -83,16 +83,41 @@ module _ {rs vs : List Vertex} {t : Setup} where
   pub places_are : {k : ℕ} {b : Vertex} {places : Simplex} (i : ℕ) → Noted rs t k b → Known vs rs → places ≡ pack vs → length vs ≡ i → unpack i places ≡ vs
   places_are i h g e l = rw (e, ← l) (unpack_pack vs (whole h g))
 
-  -- as many stand as the rules say
-  pub standing_many : {builds : ℕ} {standing : Simplex} → Stands rs vs t builds standing → length vs ≡ standing_in t.n builds
-  standing_many {builds} h = cond_both (eqb builds 0) _ _ (λ (m : ℕ). length vs ≡ m) (λ e. ap length (h.none (grind (arith, nat_tests)))) (λ e. h.all (grind (arith, nat_tests)))
+  -- place 1 has a number exactly where there is a first vertex
+  first_numbered : {k : ℕ} {b : Vertex} → Noted rs t k b → Known vs rs → 1 ≤ length vs → 1 ≤ (get_or vs 0 blank).number
+  first_numbered h g l = (h.shapes _ (g _ (mem_get_or vs 0 blank l))).numbered
 
-  standing_are : {k : ℕ} {b : Vertex} {builds : ℕ} {standing : Simplex} → Noted rs t k b → Stands rs vs t builds standing → unpack (standing_in t.n builds) standing ≡ vs
-  standing_are {builds} h g = places_are (standing_in t.n builds) h g.known g.are (standing_many g)
+  -- as many stand as the rules say
+  pub standing_many : {k : ℕ} {b : Vertex} {builds : ℕ} {standing : Simplex} → Noted rs t k b → Stands rs vs t builds standing → length vs ≡ standing_in t.n standing
+  standing_many {builds = zero} {standing} h g =
+      let empty = g.none refl in
+      let number : get_or standing.numbers 0 0 ≡ 0 = rw (g.are, empty) (number_pack [] 0) in
+      rw (empty, number)
+  standing_many {builds = suc m} {standing} h g =
+      let all = g.all (omega arith) in
+      let number : get_or standing.numbers 0 0 ≡ (get_or vs 0 blank).number = rw g.are (number_pack vs 0) in
+      grind (arith, nat_tests, first_numbered h g.known (omega arith))
+
+  standing_are : {k : ℕ} {b : Vertex} {builds : ℕ} {standing : Simplex} → Noted rs t k b → Stands rs vs t builds standing → unpack (standing_in t.n standing) standing ≡ vs
+  standing_are {standing = standing} h g = places_are (standing_in t.n standing) h g.known g.are (standing_many h g)
 
 -- so the standing simplex is the list that the invariant names
 pub standing_list : (rs : List Vertex) (s : Search) (inv : Inv rs s) → standing_of s ≡ inv.vs
 standing_list rs s inv = standing_are inv.noted inv.stands
+
+-- no fewer are gathered than the phase says
+gathered_most : (p : Phase) (t : Setup) (vs gs : List Vertex) (k : ℕ) (c : Counts) (b : Vertex) → At p t vs gs k c b → gathered_in p ≤ length gs
+gathered_most (Building i) t vs gs k c b h = omega (arith, h.many)
+gathered_most Expanding t vs gs k c b h = rw h.1.holds (omega arith)
+gathered_most (Contracting side) t vs gs k c b h = rw h.1.holds (omega arith)
+gathered_most (Shrinking j) t vs gs k c b h = omega (arith, h.many)
+gathered_most p t vs gs k c b h = omega arith
+
+-- and those that it says are among the gathered ones that the invariant names
+pub gathered_list : (rs : List Vertex) (s : Search) (inv : Inv rs s) → gathered_of s ≡ take (gathered_in s.phase) inv.gs
+gathered_list rs s inv =
+    let most = gathered_most s.phase s.setup inv.vs inv.gs s.readings s.counts s.best inv.phase in
+    rw inv.gathers.are (unpack_take (gathered_in s.phase) inv.gs (whole inv.noted inv.gathers.known) most)
 
 -- ---- any decision
 
@@ -103,7 +128,7 @@ pub record Parts (rs : List Vertex) (v : Vertex) (s : Search) (standing gathered
   pub stands : Stands (rs ▹ v) vs s.setup c.builds standing
   pub gathers : Gathers (rs ▹ v) gs gathered
   pub equation : Equation s.setup.n (s.readings + 1) c
-  pub phase : At next s.setup standing vs gs (s.readings + 1) c (best_after s.readings v s.best)
+  pub phase : At next s.setup vs gs (s.readings + 1) c (best_after s.readings v s.best)
   pub unfinished : c.unfinished ≡ cond (is_open ps (is_probe s.phase) s.readings) (s.counts.unfinished + 1) 0
   pub falls : count_of Build ps ≡ 0 → count_of Shrink ps ≡ 0 → others_in ps + total (map cost_of vs) ≤ standing_costs s
   pub first : (ps ≡ [] → ⊥) → Leads vs (best_after s.readings v s.best)
@@ -121,7 +146,7 @@ step rs v s d next e after h =
     let u = entrant d v s in
     let best = best_after s.readings v s.best in
     let are = standing_are after h.stands in
-    let P : Phase → Type 0 = λ p. At p s.setup (standing_after d u s) h.vs h.gs (s.readings + 1) c best in
+    let P : Phase → Type 0 = λ p. At p s.setup h.vs h.gs (s.readings + 1) c best in
     record {
       inv =
           record {
@@ -160,14 +185,14 @@ module _ (rs : List Vertex) (v : Vertex) (s : Search) (inv : Inv rs s) (after : 
   finish vs met h =
       let c = counted p (told_in s.phase s.counts) in
       let best = best_after s.readings v s.best in
-      let idle : Idle 0 [] (s.readings + 1) c = record { stood = h.stood; some = omega arith; empty = refl; unfinished = refl } in
+      let idle : Idle 0 (s.readings + 1) c = record { stood = h.stood; some = omega arith; unfinished = refl } in
       record {
         vs = vs;
         gs = [];
         stands = record { are = refl; none = λ e. absurd (omega (arith, h.stood)); all = λ l. h.many; sorted = h.sorted; known = h.known };
         gathers = record { are = refl; known = λ w m. absurd (Memᴰ.not-nil m) };
         equation = closes p s.setup.n (s.readings + 1) (told_in s.phase s.counts) (equation_told rs s inv live) h.unfinished;
-        phase = cond_both met _ _ (λ (q : Phase). At q s.setup (pack vs) vs [] (s.readings + 1) c best) (λ e. (idle, h.leads, omega (arith, after.sane.at_least))) (λ e. (idle, h.leads));
+        phase = cond_both met _ _ (λ (q : Phase). At q s.setup vs [] (s.readings + 1) c best) (λ e. (idle, h.leads, omega (arith, after.sane.at_least))) (λ e. (idle, h.leads));
         unfinished = refl;
         falls = h.falls;
         first = λ l. h.leads;
