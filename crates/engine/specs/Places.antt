@@ -9,7 +9,7 @@ use Rattle.rules.specs.declared.Vertex.{Vertex}
 
 -- s with v at place i, counted from 0
 abbrev pub put_at : Simplex → ℕ → Vertex → Simplex
-put_at s i v = record { points = paste s.points (8 * i) v.point 8; costs = set s.costs i v.cost }
+put_at s i v = record { points = paste s.points (8 * i) v.point 8; costs = set s.costs i v.cost; numbers = set s.numbers i v.number }
 
 -- s has blank places after its first i
 abbrev pub Clean : ℕ → Simplex → Type 0

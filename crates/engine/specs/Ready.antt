@@ -18,7 +18,7 @@ pub record Ready (s : Search) : Type 0 where
   pub low : 1 ≤ s.setup.n
   pub high : s.setup.n ≤ 8
   pub rule : sound_rule s.setup.rule ≡ true
-  pub phase : sound_phase s.setup.n s.counts.builds s.phase ≡ true
+  pub phase : sound_phase s.setup.n s.readings s.phase ≡ true
   pub live : is_ended s.phase ≡ false
   pub counts : sound_counts max_budget s.counts ≡ true
   pub standing : all_costs s.standing.costs ≡ true

@@ -48,7 +48,8 @@ pub(super) fn accept(s: &mut Search, cost: u64)
     ensures { s.new ≡ accept s.old cost }
 {
     let point = trial(s, s.phase).point;
-    let v = Vertex { point, cost };
+    let number = s.readings + 1;
+    let v = Vertex { point, cost, number };
     let decision = decided(s, cost);
     let piece = finished_by(decision);
     let u = entrant(s, decision, v);

@@ -14,7 +14,7 @@ fn told_in(phase: Phase, counts: &mut Counts)
     ensures { counts.new ≡ told_in phase counts.old }
 {
     counts.probes += is_probe(phase);
-    counts.unfinished += open_by(phase, counts.builds);
+    counts.unfinished += open_by(phase);
 }
 
 // A finished piece more, and nothing open.

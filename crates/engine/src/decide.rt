@@ -6,7 +6,7 @@ ghost use Rattle.engine.specs.Ready.{Ready};
 
 use rules::{Cause, Decision, Keeping, Newcomer, Phase, Piece, Search, Side};
 
-// r told: the four rows of the table, by the costs at places 1, n and n + 1.
+// r told: the four rows of the table, by the costs at places 1, n and n + 1. It is gathered where e or a contraction follows.
 #[tactic(auto, unfolding(rules::specs::Decide::decided))]
 fn reflected_on(s: &Search, fr: u64) -> Decision
     requires { (1 ≤ s.now.setup.n) × (s.now.setup.n ≤ 8) }
@@ -15,23 +15,23 @@ fn reflected_on(s: &Search, fr: u64) -> Decision
     let n = s.setup.n;
     let costs = &s.standing.costs;
     if fr < costs[0] {
-        Decision::Go(Keeping::Nothing, Phase::Expanding(fr))
+        Decision::Go(Keeping::Joined, Phase::Expanding)
     } else if fr < costs[n - 1] {
         Decision::Take(Piece::Reflection, Newcomer::Latest)
     } else if fr < costs[n] {
-        Decision::Go(Keeping::Nothing, Phase::Contracting(Side::Outside, fr))
+        Decision::Go(Keeping::Joined, Phase::Contracting(Side::Outside))
     } else {
-        Decision::Go(Keeping::Nothing, Phase::Contracting(Side::Inside, fr))
+        Decision::Go(Keeping::Joined, Phase::Contracting(Side::Inside))
     }
 }
 
-// Whether the outside or inside point is taken.
-fn wins(s: &Search, side: Side, fr: u64, fc: u64) -> bool
+// Whether the outside or inside point is taken; the outside one is held against r, the first of the gathered vertices.
+fn wins(s: &Search, side: Side, fc: u64) -> bool
     requires { s.now.setup.n ≤ 8 }
-    ensures { result ≡ wins side fr fc s.now }
+    ensures { result ≡ wins side fc s.now }
 {
     match side {
-        Side::Outside => fc <= fr,
+        Side::Outside => fc <= s.gathered.costs[0],
         Side::Inside => fc < s.standing.costs[s.setup.n],
     }
 }
@@ -62,13 +62,16 @@ pub(super) fn decided(s: &Search, cost: u64) -> Decision
         Phase::Building(i) if i == n => Decision::Stand(Piece::Build),
         Phase::Building(i) => Decision::Go(Keeping::Joined, Phase::Building(i + 1)),
         Phase::Reflecting => reflected_on(s, cost),
-        Phase::Expanding(fr) if cost < fr => Decision::Take(Piece::Expansion, Newcomer::Latest),
-        Phase::Expanding(fr) => Decision::Take(Piece::Expansion, Newcomer::Reflected(fr)),
-        Phase::Contracting(side, fr) if wins(s, side, fr, cost) => Decision::Take(
+        Phase::Expanding if cost < s.gathered.costs[0] => Decision::Take(
+            Piece::Expansion,
+            Newcomer::Latest,
+        ),
+        Phase::Expanding => Decision::Take(Piece::Expansion, Newcomer::Reflected),
+        Phase::Contracting(side) if wins(s, side, cost) => Decision::Take(
             Piece::Contraction,
             Newcomer::Latest,
         ),
-        Phase::Contracting(_, _) => Decision::Go(Keeping::First, Phase::Shrinking(1)),
+        Phase::Contracting(_) => Decision::Go(Keeping::First, Phase::Shrinking(1)),
         Phase::Shrinking(j) if j == n => Decision::Stand(Piece::Shrink),
         Phase::Shrinking(j) => Decision::Go(Keeping::Joined, Phase::Shrinking(j + 1)),
         Phase::Probing(p) => probed_on(s, p, cost),

@@ -14,6 +14,7 @@ fn put_before(s: &mut Simplex, i: usize, len: usize, v: Vertex)
 {
     s.points.copy_within(8 * i..8 * len, 8 * i + 8);
     s.costs.copy_within(i..len, i + 1);
+    s.numbers.copy_within(i..len, i + 1);
     put(s, i, v);
 }
 

@@ -71,6 +71,7 @@ pub fn best(search: &Search) -> Result<Vertex, Refusal>
     Ok(Vertex {
         point: point::shown(search.setup.n, search.best.point),
         cost: search.best.cost,
+        number: search.best.number,
     })
 }
 

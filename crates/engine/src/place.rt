@@ -1,4 +1,4 @@
-// One place of a simplex, read from and written to the flat runs of points and costs. Each function asks that its place is one of the nine:
+// One place of a simplex, read from and written to the flat runs of points, costs and numbers. Each function asks that its place is one of the nine:
 // a type for a place would be made of an index and taken apart at once.
 ghost use Rattle.std.specs.Prelude.{◌≡◌, ◌<◌, ◌≤◌, []};
 ghost use Rattle.rules.specs.Simplex.{pack, unpack, place};
@@ -24,6 +24,7 @@ pub(super) fn place_at(s: &Simplex, i: usize) -> Vertex
     Vertex {
         point: point_at(s, i),
         cost: s.costs[i],
+        number: s.numbers[i],
     }
 }
 
@@ -34,6 +35,7 @@ pub(super) fn put(s: &mut Simplex, i: usize, v: Vertex)
 {
     s.points[8 * i..8 * i + 8].copy_from_slice(&v.point);
     s.costs[i] = v.cost;
+    s.numbers[i] = v.number;
 }
 
 // Blanks the places from len on, counted from 0.
@@ -43,6 +45,7 @@ pub(super) fn clear(s: &mut Simplex, len: usize)
 {
     s.points[8 * len..].fill(0.0);
     s.costs[len..].fill(0);
+    s.numbers[len..].fill(0);
 }
 
 // A simplex of nine blank places. Written out and not derived: document 01 gives the run of 72 numbers in this form.
@@ -53,5 +56,6 @@ pub(super) fn blank() -> Simplex
     Simplex {
         points: [0.0f64; 72],
         costs: [0u64; 9],
+        numbers: [0u64; 9],
     }
 }

@@ -4,19 +4,20 @@ ghost use Rattle.std.specs.Prelude.{◌≡◌, ◌≤◌};
 ghost use Rattle.rules.specs.Calls.{sound_phase, standing_in, in_order, all_costs, sound_rule, sound_counts, intact, undamaged, ask_verdict, tell_verdict, best_verdict};
 
 use super::view::{gathered_in, is_ended};
-use rules::{Counts, MAX_BUDGET, MAX_COST, MAX_SPREAD, Phase, Refusal, Rule, Search};
+use rules::{
+    Counts, MAX_BUDGET, MAX_COST, MAX_SPREAD, Phase, Refusal, Rule, Search, Simplex,
+};
 
-// Whether a phase's vertex or probe number is one of its trials, and its cost in range.
-fn sound_phase(n: usize, builds: u64, phase: Phase) -> bool
+// Whether a phase's vertex or probe number is one of its trials.
+fn sound_phase(n: usize, readings: u64, phase: Phase) -> bool
     requires { n ≤ 8 }
-    ensures { result ≡ sound_phase n builds phase }
+    ensures { result ≡ sound_phase n readings phase }
 {
     match phase {
-        Phase::Building(i) => i <= n && (builds == 0 || 1 <= i),
-        Phase::Expanding(f) | Phase::Contracting(_, f) => f <= MAX_COST,
+        Phase::Building(i) => i <= n && (readings == 0 || 1 <= i),
         Phase::Shrinking(j) => 1 <= j && j <= n,
         Phase::Probing(p) => p < 2 * n,
-        Phase::Reflecting | Phase::Ended(_) => true,
+        Phase::Reflecting | Phase::Expanding | Phase::Contracting(_) | Phase::Ended(_) => true,
     }
 }
 
@@ -59,12 +60,12 @@ fn in_order(costs: &[u64]) -> bool
     costs.is_sorted()
 }
 
-// How many vertices stand, after so many builds.
-fn standing_in(n: usize, builds: u64) -> usize
+// How many vertices stand: none where place 1 has no reading.
+fn standing_in(n: usize, places: &Simplex) -> usize
     requires { n ≤ 8 }
-    ensures { result ≡ standing_in n builds }
+    ensures { result ≡ standing_in n places.now }
 {
-    if builds == 0 { 0 } else { n + 1 }
+    if places.numbers[0] == 0 { 0 } else { n + 1 }
 }
 
 // None of the causes of refusal 12, for a search that has not ended.
@@ -78,8 +79,8 @@ fn intact(s: &Search) -> bool
         && sound_counts(s.setup.budget, &s.counts)
         && s.setup.budget <= MAX_BUDGET
         && sound_rule(s.setup.rule)
-        && sound_phase(s.setup.n, s.counts.builds, s.phase)
-        && in_order(&s.standing.costs[..standing_in(s.setup.n, s.counts.builds)])
+        && sound_phase(s.setup.n, s.readings, s.phase)
+        && in_order(&s.standing.costs[..standing_in(s.setup.n, &s.standing)])
         && in_order(&s.gathered.costs[..gathered_in(s.phase)])
         && all_costs(&s.standing.costs)
         && all_costs(&s.gathered.costs)

@@ -136,9 +136,9 @@ pub(super) fn trial(s: &Search, phase: Phase) -> Trial
     match phase {
         Phase::Building(i) => built(s, i, &mut out),
         Phase::Reflecting => reflected(s, &mut out),
-        Phase::Expanding(_) => along(s, s.setup.coefficients.chi, &mut out),
-        Phase::Contracting(Side::Outside, _) => along(s, s.setup.coefficients.beta, &mut out),
-        Phase::Contracting(Side::Inside, _) => inside(s, &mut out),
+        Phase::Expanding => along(s, s.setup.coefficients.chi, &mut out),
+        Phase::Contracting(Side::Outside) => along(s, s.setup.coefficients.beta, &mut out),
+        Phase::Contracting(Side::Inside) => inside(s, &mut out),
         Phase::Shrinking(j) => shrunk(s, j, &mut out),
         Phase::Probing(p) => probed(s, p, &mut out),
         Phase::Ended(_) => {}

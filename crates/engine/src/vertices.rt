@@ -7,20 +7,15 @@ ghost use Rattle.engine.specs.Ready.{Ready};
 
 use super::insert::insert;
 use super::place::{blank, place_at};
-use super::trial::trial;
 use super::view::gathered_in;
-use rules::{Decision, Keeping, Newcomer, Phase, Search, Vertex};
+use rules::{Decision, Keeping, Newcomer, Search, Vertex};
 
-// The vertex that a decision lets in: the reading v, or r where e is told and not lower than r.
+// The vertex that a decision lets in: the reading v, or r as it was gathered, where e is told and not lower than r.
 pub(super) fn entrant(s: &Search, decision: Decision, v: Vertex) -> Vertex
-    requires { Ready s.now }
     ensures { result ≡ entrant decision v s.now }
 {
     match decision {
-        Decision::Take(_, Newcomer::Reflected(cost)) => {
-            let point = trial(s, Phase::Reflecting).point;
-            Vertex { point, cost }
-        }
+        Decision::Take(_, Newcomer::Reflected) => place_at(&s.gathered, 0),
         _ => v,
     }
 }

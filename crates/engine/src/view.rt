@@ -10,7 +10,8 @@ fn view(phase: Phase) -> View
 {
     match phase {
         Phase::Building(i) => View::Builds(i),
-        Phase::Reflecting | Phase::Expanding(_) | Phase::Contracting(_, _) => View::Iterates(0),
+        Phase::Reflecting => View::Iterates(0),
+        Phase::Expanding | Phase::Contracting(_) => View::Iterates(1),
         Phase::Shrinking(j) => View::Iterates(j),
         Phase::Probing(p) => View::Probes(p),
         Phase::Ended(cause) => View::Over(cause),
@@ -24,7 +25,7 @@ pub(super) fn is_ended(phase: Phase) -> bool
     matches!(view(phase), View::Over(_))
 }
 
-// How many vertices the unfinished build or shrink has gathered.
+// How many vertices the unfinished build or iteration has gathered.
 pub(super) fn gathered_in(phase: Phase) -> usize
     ensures { result ≡ gathered_in phase }
 {
@@ -44,12 +45,12 @@ pub(super) fn is_probe(phase: Phase) -> u64
     }
 }
 
-// What it adds to the open readings, after so many builds: the very first reading is not open.
-pub(super) fn open_by(phase: Phase, builds: u64) -> u64
-    ensures { result ≡ open_by phase builds }
+// What it adds to the open readings: the very first reading, trial 0 of a build, is not open.
+pub(super) fn open_by(phase: Phase) -> u64
+    ensures { result ≡ open_by phase }
 {
     match view(phase) {
-        View::Builds(i) if builds == 0 && i == 0 => 0,
+        View::Builds(0) => 0,
         View::Builds(_) | View::Iterates(_) => 1,
         View::Probes(_) | View::Over(_) => 0,
     }

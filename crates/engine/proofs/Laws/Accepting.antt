@@ -9,15 +9,12 @@ use lib.Ieee.{Float}
 use Rattle.std.proofs.lemmas.Bool.Decides.{nat_tests}
 use Rattle.rules.specs.Numbers.{max_cost}
 use Rattle.rules.specs.Simplex.{pack, unpack, insert}
-use Rattle.rules.specs.Decide.{decided}
 use Rattle.rules.specs.Accept.{entrant, standing_after, gathered_after}
-use Rattle.rules.specs.Calls.{sound_phase, all_costs}
-use Rattle.rules.specs.declared.Phase.{Phase}
-use Rattle.rules.specs.declared.Phase.TheVariants.{Expanding, Contracting}
-use Rattle.rules.specs.declared.Side.TheVariants.{Outside, Inside}
+use Rattle.rules.specs.Calls.{all_costs}
 use Rattle.rules.specs.declared.Vertex.{Vertex}
 use Rattle.rules.specs.declared.Simplex.{Simplex}
 use Rattle.rules.specs.declared.Search.{Search}
+use Rattle.rules.specs.declared.Newcomer.TheVariants.{Latest, Reflected}
 use Rattle.rules.specs.declared.Keeping.TheVariants.{Nothing, Joined, First}
 use Rattle.rules.specs.declared.Decision.{Decision}
 use Rattle.rules.specs.declared.Decision.TheVariants.{Go, Take, Stand, Restart}
@@ -28,18 +25,14 @@ use Rattle.engine.proofs.Laws.Placing.{cost_low, low_inserted, insert_none}
 
 -- ---- the vertex that enters
 
--- what a reading decides in a sound phase lets a vertex with a cost in range in, where the reading's own cost is
-decided_low : (p : Phase) (s : Search) (v : Vertex) (builds : ℕ) → sound_phase s.setup.n builds p ≡ true → v.cost ≤ max_cost → (entrant (decided p s v.cost) v s).cost ≤ max_cost
-unfolding decided
-decided_low (Expanding fr) s v b h l = grind (arith, nat_tests)
-decided_low (Contracting Outside fr) s v b h l = grind (arith, nat_tests)
-decided_low (Contracting Inside fr) s v b h l = grind (arith, nat_tests)
-decided_low _ s v b h l = grind (arith, nat_tests)
-
--- the same of the vertex u that the decision d on the cost c, told for the point x, lets in
-pub entrant_low : (s : Search) (x : List Float) (c : ℕ) (d : Decision) (u : Vertex) → u ≡ entrant d (record { point = x; cost = c }) s → d ≡ decided s.phase s c
+-- the vertex u that the decision d lets in, the reading k of cost c at the point x being told, has a cost in range, where c is and the gathered ones are
+pub entrant_low : (s : Search) (d : Decision) (x : List Float) (c k : ℕ) (u : Vertex) → u ≡ entrant d (record { point = x; cost = c; number = k }) s
     → Ready s → c ≤ max_cost → u.cost ≤ max_cost
-entrant_low s x c d u f e h l = rw (f, e) (decided_low s.phase s (record { point = x; cost = c }) s.counts.builds h.phase l)
+entrant_low s (Take piece Reflected) x c k u f h l = rw f (cost_low s.gathered.costs h.gathered 0)
+entrant_low s (Take piece Latest) x c k u f h l = rw f l
+entrant_low s (Go keeping next) x c k u f h l = rw f l
+entrant_low s (Stand piece) x c k u f h l = rw f l
+entrant_low s Restart x c k u f h l = rw f l
 
 -- ---- the places
 

@@ -17,10 +17,10 @@ use Rattle.rules.specs.declared.Simplex.{Simplex}
 use Rattle.rules.specs.declared.Vertex.{Vertex}
 use Rattle.rules.specs.Numbers.{max_cost}
 use Rattle.rules.specs.Calls.{all_costs}
-use Rattle.rules.specs.Simplex.{up_to, blank, cost_of, flat, store, pack, place, unpack, insert}
+use Rattle.rules.specs.Simplex.{up_to, blank, cost_of, number_in, flat, store, pack, place, unpack, insert}
 use Rattle.std.proofs.lemmas.Bool.Decides.{nat_tests}
 use Rattle.rules.proofs.Laws.Lists.{length_up_to, get_or_up_to}
-use Rattle.rules.proofs.Laws.Places.{Whole, flat_append, flat_unpack, costs_unpack, costs_pack, unpack_pack}
+use Rattle.rules.proofs.Laws.Places.{Whole, flat_append, flat_unpack, costs_unpack, numbers_unpack, costs_pack, unpack_pack}
 use Rattle.rules.proofs.Laws.Order.{insert_after, insert_before, mem_insert}
 use Rattle.engine.specs.Places.{put_at, Clean, Holds}
 
@@ -34,10 +34,10 @@ flat_blank (suc k) =
     let e : 8 * suc k ≡ 8 + 8 * k = omega arith in
     rw (e, flat_blank k, ← replicate-append-replicate)
 
--- the costs of blank places are zeros
-costs_blank : (k : ℕ) → map cost_of (replicate k blank) ≡ replicate k 0
-costs_blank zero = refl
-costs_blank (suc k) = rw (costs_blank k)
+-- a measure of blank places is a blank one's, over and over
+measure_blank : (f : Vertex → ℕ) (k : ℕ) → map f (replicate k blank) ≡ replicate k (f blank)
+measure_blank f zero = refl
+measure_blank f (suc k) = rw (measure_blank f k)
 
 -- a run that is filled with z from place a on
 pub filled : {A : Type 0} (a n : ℕ) (xs ys : List A) (z : A) → a ≤ n → length xs ≡ n → ys ≡ replicate (length (mid_of a (n - a) xs)) z
@@ -52,12 +52,16 @@ unfolding unpack
 length_unpack m s = length_up_to (place s) m
 
 -- the first m places, and zeros after them, are the vertices of the first m places
-pub pack_first : (s : Simplex) (m : ℕ) (ps : List Float) (cs : List ℕ) → m ≤ length s.costs
-    → ps ≡ take (8 * m) s.points ++ replicate (72 - 8 * m) 0ᶠ → cs ≡ take m s.costs ++ replicate (9 - m) 0 → record { points = ps; costs = cs } ≡ pack (unpack m s)
+pub pack_first : (s : Simplex) (m : ℕ) (ps : List Float) (cs ks : List ℕ) → m ≤ length s.costs → m ≤ length s.numbers
+    → ps ≡ take (8 * m) s.points ++ replicate (72 - 8 * m) 0ᶠ → cs ≡ take m s.costs ++ replicate (9 - m) 0 → ks ≡ take m s.numbers ++ replicate (9 - m) 0
+    → record { points = ps; costs = cs; numbers = ks } ≡ pack (unpack m s)
 unfolding store
-pack_first s m ps cs l p c =
+pack_first s m ps cs ks l k p c d =
     let e : 72 - 8 * m ≡ 8 * (9 - m) = omega arith in
-    rw (length_unpack m s, flat_append, map-append cost_of, flat_unpack m s, costs_unpack m s l, flat_blank, costs_blank, p, c, e)
+    let points : ps ≡ flat (unpack m s ++ replicate (9 - m) blank) = rw (flat_append, flat_unpack m s, flat_blank, p, e) in
+    let costs : cs ≡ map cost_of (unpack m s ++ replicate (9 - m) blank) = rw (map-append cost_of, costs_unpack m s l, measure_blank cost_of, c) in
+    let numbers : ks ≡ map number_in (unpack m s ++ replicate (9 - m) blank) = rw (map-append number_in, numbers_unpack m s k, measure_blank number_in, d) in
+    rw (length_unpack m s, points, costs, numbers)
 
 -- what holds at each of the first m places holds of each vertex that `unpack` reads there
 each_unpack : (P : Vertex → Type 0) (m : ℕ) (s : Simplex) → ((i : ℕ) → i < m → P (place s i)) → (v : Vertex) → Memᴰ v (unpack m s) → P v
@@ -127,31 +131,42 @@ length_flat (v ∷ vs) h = simp length-append (omega (arith, h v (Memᴰ.head re
 whole_append : (vs ws : List Vertex) → Whole vs → Whole ws → Whole (vs ++ ws)
 whole_append vs ws a b v m = ⊎_elim (a v) (b v) (Memᴰ.append_cases vs m)
 
--- v put where the vertices ys have moved on by one place stands between xs and ys
-put_between : (xs ys : List Vertex) (v : Vertex) (s : Simplex) (i len : ℕ) → Whole xs → Whole ys → length v.point ≡ 8 → length xs ≡ i → length xs + length ys ≡ len → len ≤ 8 → length s.costs ≡ 9
-    → s.points ≡ copy_within (pack (xs ++ ys)).points (8 * i) (8 * len) (8 * i + 8) → s.costs ≡ copy_within (pack (xs ++ ys)).costs i len (i + 1)
-    → put_at s i v ≡ pack (xs ++ v ∷ ys)
-unfolding store flat
-put_between xs ys v s i len a b eight h k small nine p c =
-    let m = 8 - len in
-    let ws = replicate m blank in
-    let before : 9 - length (xs ++ ys) ≡ suc m = simp length-append (omega arith) in
-    let after : 9 - length (xs ++ v ∷ ys) ≡ m = simp length-append (omega arith) in
-    let points : flat (xs ++ ys ++ replicate (suc m) blank) ≡ flat xs ++ flat ys ++ blank.point ++ flat ws = simp (flat_append, append_assoc) in
-    let costs : map cost_of (xs ++ ys ++ replicate (suc m) blank) ≡ map cost_of xs ++ map cost_of ys ++ (0 ∷ []) ++ map cost_of ws = simp (map-append, append_assoc) in
-    let put_points = opened (flat xs) (flat ys) blank.point (flat ws) v.point (8 * i) (8 * len) 8 (omega (arith, length_flat xs a)) (omega (arith, length_flat xs a, length_flat ys b)) refl eight in
-    let put_costs = opened (map cost_of xs) (map cost_of ys) (0 ∷ []) (map cost_of ws) (v.cost ∷ []) i len 1 (simp length-map h) (simp length-map k) refl refl in
-    let all_points : flat (xs ++ v ∷ ys ++ ws) ≡ flat xs ++ v.point ++ flat ys ++ flat ws = simp (flat_append, append_assoc) in
-    let all_costs : map cost_of (xs ++ v ∷ ys ++ ws) ≡ map cost_of xs ++ (v.cost ∷ []) ++ map cost_of ys ++ map cost_of ws = simp (map-append, append_assoc) in
-    let ps : paste s.points (8 * i) v.point 8 ≡ flat (xs ++ v ∷ ys ++ ws) = rw (p, before, points) (put_points ∙ sym all_points) in
-    let cs : set s.costs i v.cost ≡ map cost_of (xs ++ v ∷ ys ++ ws) = set_paste s.costs i v.cost (omega arith) ∙ rw (c, before, costs) (put_costs ∙ sym all_costs) in
-    rw (ps, cs, after)
+module _ (xs ys : List Vertex) (v : Vertex) (i len : ℕ) (h : length xs ≡ i) (k : length xs + length ys ≡ len) (small : len ≤ 8) where
+  -- one blank place fewer follows
+  blank_before : 9 - length (xs ++ ys) ≡ suc (8 - len)
+  blank_before = simp length-append (omega arith)
+
+  blank_after : 9 - length (xs ++ v ∷ ys) ≡ 8 - len
+  blank_after = simp length-append (omega arith)
+
+  -- a measure of v put where that of the vertices ys has moved on by one place stands between those of xs and ys
+  measure_between : (f : Vertex → ℕ) (ks : List ℕ) → length ks ≡ 9 → ks ≡ copy_within (map f (xs ++ ys ++ replicate (9 - length (xs ++ ys)) blank)) i len (i + 1)
+      → set ks i (f v) ≡ map f (xs ++ v ∷ ys ++ replicate (9 - length (xs ++ v ∷ ys)) blank)
+  measure_between f ks nine c =
+      let ws = replicate (8 - len) blank in
+      let was : map f (xs ++ ys ++ replicate (suc (8 - len)) blank) ≡ map f xs ++ map f ys ++ (f blank ∷ []) ++ map f ws = simp (map-append, append_assoc) in
+      let put = opened (map f xs) (map f ys) (f blank ∷ []) (map f ws) (f v ∷ []) i len 1 (simp length-map h) (simp length-map k) refl refl in
+      let all : map f (xs ++ v ∷ ys ++ ws) ≡ map f xs ++ (f v ∷ []) ++ map f ys ++ map f ws = simp (map-append, append_assoc) in
+      rw blank_after (set_paste ks i (f v) (omega arith) ∙ rw (c, blank_before, was) (put ∙ sym all))
+
+  -- v put where the vertices ys have moved on by one place stands between xs and ys
+  put_between : (s : Simplex) → Whole xs → Whole ys → length v.point ≡ 8 → length s.costs ≡ 9 → length s.numbers ≡ 9
+      → s.points ≡ copy_within (pack (xs ++ ys)).points (8 * i) (8 * len) (8 * i + 8) → s.costs ≡ copy_within (pack (xs ++ ys)).costs i len (i + 1)
+      → s.numbers ≡ copy_within (pack (xs ++ ys)).numbers i len (i + 1) → put_at s i v ≡ pack (xs ++ v ∷ ys)
+  unfolding store flat
+  put_between s a b eight costs numbers p c d =
+      let ws = replicate (8 - len) blank in
+      let was : flat (xs ++ ys ++ replicate (suc (8 - len)) blank) ≡ flat xs ++ flat ys ++ blank.point ++ flat ws = simp (flat_append, append_assoc) in
+      let put = opened (flat xs) (flat ys) blank.point (flat ws) v.point (8 * i) (8 * len) 8 (omega (arith, length_flat xs a)) (omega (arith, length_flat xs a, length_flat ys b)) refl eight in
+      let all : flat (xs ++ v ∷ ys ++ ws) ≡ flat xs ++ v.point ++ flat ys ++ flat ws = simp (flat_append, append_assoc) in
+      let ps : paste s.points (8 * i) v.point 8 ≡ flat (xs ++ v ∷ ys ++ replicate (9 - length (xs ++ v ∷ ys)) blank) = rw (blank_after, p, blank_before, was) (put ∙ sym all) in
+      rw (ps, measure_between cost_of s.costs costs c, measure_between number_in s.numbers numbers d)
 
 -- v put where the first len vertices of old have moved on from place i stands among them
-pub put_among : (old new : Simplex) (i len : ℕ) (v : Vertex) → Clean len old → length old.points ≡ 72 → length v.point ≡ 8 → i ≤ len → len ≤ 8 → length new.costs ≡ 9
-    → new.points ≡ copy_within old.points (8 * i) (8 * len) (8 * i + 8) → new.costs ≡ copy_within old.costs i len (i + 1)
+pub put_among : (old new : Simplex) (i len : ℕ) (v : Vertex) → Clean len old → length old.points ≡ 72 → length v.point ≡ 8 → i ≤ len → len ≤ 8 → length new.costs ≡ 9 → length new.numbers ≡ 9
+    → new.points ≡ copy_within old.points (8 * i) (8 * len) (8 * i + 8) → new.costs ≡ copy_within old.costs i len (i + 1) → new.numbers ≡ copy_within old.numbers i len (i + 1)
     → Holds (len + 1) (put_at new i v) (take i (unpack len old) ++ v ∷ drop i (unpack len old))
-put_among old new i len v clean long eight l small nine p c =
+put_among old new i len v clean long eight l small costs numbers p c d =
     let us = unpack len old in
     let n = length_unpack len old in
     let whole : Whole us = whole_unpack len old long (omega arith) in
@@ -161,9 +176,10 @@ put_among old new i len v clean long eight l small nine p c =
     let was : old ≡ pack (take i us ++ drop i us) = rw parts clean in
     let vs = take i us ++ v ∷ drop i us in
     let packed : put_at new i v ≡ pack vs =
-    put_between (take i us) (drop i us) v new i len front back eight (length-take-le i us (omega arith)) (simp length-append at (ap length parts) ∙ n) small nine
+    put_between (take i us) (drop i us) v i len (length-take-le i us (omega arith)) (simp length-append at (ap length parts) ∙ n) small new front back eight costs numbers
     (p ∙ ap (λ (s : Simplex). copy_within s.points (8 * i) (8 * len) (8 * i + 8)) was)
-    (c ∙ ap (λ (s : Simplex). copy_within s.costs i len (i + 1)) was) in
+    (c ∙ ap (λ (s : Simplex). copy_within s.costs i len (i + 1)) was)
+    (d ∙ ap (λ (s : Simplex). copy_within s.numbers i len (i + 1)) was) in
     let one : Whole (v ∷ []) = λ w m. rw (Memᴰ.eq_of_singleton m) eight in
     let all : Whole vs = whole_append (take i us) (v ∷ drop i us) front (whole_append (v ∷ []) (drop i us) one back) in
     let m : length vs ≡ len + 1 = simp length-append (omega (arith, length-take-le i us (omega arith), length-drop i us)) in

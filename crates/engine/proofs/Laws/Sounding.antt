@@ -63,10 +63,10 @@ counts_most : (b : ℕ) (c : Counts) → sound_counts b c ≡ true → b ≤ max
 counts_most b c h l = grind (arith, nat_tests)
 
 -- a sound phase has gathered no more vertices than there are axes
-gathered_most : (n builds : ℕ) (p : Phase) → sound_phase n builds p ≡ true → gathered_in p ≤ n
-gathered_most n builds (Building i) h = leb-true i n ((and-eq-true_iff (leb i n) _).0 h).0
-gathered_most n builds (Shrinking j) h = leb-true j n ((and-eq-true_iff (leb 1 j) (leb j n)).0 h).1
-gathered_most n builds _ h = omega arith
+gathered_most : (n readings : ℕ) (p : Phase) → 1 ≤ n → sound_phase n readings p ≡ true → gathered_in p ≤ n
+gathered_most n readings (Building i) l h = leb-true i n ((and-eq-true_iff (leb i n) _).0 h).0
+gathered_most n readings (Shrinking j) l h = leb-true j n ((and-eq-true_iff (leb 1 j) (leb j n)).0 h).1
+gathered_most n readings _ l h = omega arith
 
 module _ (s : Search) (h : (intact s ≡ true) × (is_ended s.phase ≡ false)) where
   -- an intact search that has not ended has what every step needs
@@ -94,7 +94,7 @@ module _ (s : Search) (h : (intact s ≡ true) × (is_ended s.phase ≡ false)) 
 
 -- a search that is ready can be asked for the trial of its own phase
 askable_now : (s : Search) → Ready s → Askable s s.phase
-askable_now s h = record { low = h.low; high = h.high; fits = gathered_most s.setup.n s.counts.builds s.phase h.phase; live = h.live }
+askable_now s h = record { low = h.low; high = h.high; fits = gathered_most s.setup.n s.readings s.phase h.low h.phase; live = h.live }
 
 -- a search that is refused neither as damaged nor as ended is intact and has not ended
 unrefused : (s : Search) (v : Verdict) → check (undamaged s) Damaged (check (not (is_ended s.phase)) SearchEnded v) ≡ Ok tt → (intact s ≡ true) × (is_ended s.phase ≡ false)
