@@ -28,9 +28,9 @@ fn phase_name(phase: Phase) -> &'static str {
     match phase {
         Phase::Building(_) => "building",
         Phase::Reflecting => "reflecting",
-        Phase::Expanding(_) => "expanding",
-        Phase::Contracting(Side::Outside, _) => "outside",
-        Phase::Contracting(Side::Inside, _) => "inside",
+        Phase::Expanding => "expanding",
+        Phase::Contracting(Side::Outside) => "outside",
+        Phase::Contracting(Side::Inside) => "inside",
         Phase::Shrinking(_) => "shrinking",
         Phase::Probing(_) => "probing",
         Phase::Ended(Cause::Settled) => "settled",
@@ -38,12 +38,12 @@ fn phase_name(phase: Phase) -> &'static str {
     }
 }
 
-// Writes where a search stands: its phase, its best reading (zeros where nothing is read), its counts (builds, reflections,
+// Writes where a search stands: its phase, its best reading with its number (zeros where nothing is read), its counts (builds, reflections,
 // expansions, contractions, shrinks, probes, open readings).
 pub(super) fn state(rt: &impl Print, s: &Search) -> io::Result<()> {
     let best = engine::best(s).unwrap_or_default();
     let point = Coordinates(&best.point[..s.setup.n.min(8)]);
-    println!(rt; "{}, best{point} {}", phase_name(s.phase), best.cost)?;
+    println!(rt; "{}, best{point} {} {}", phase_name(s.phase), best.cost, best.number)?;
     let c = s.counts;
     println!(rt;
         "counts {} {} {} {} {} {} {}",

@@ -1,6 +1,6 @@
 // The parts of a search that a script can write, as no call would (docs/REPLAY.md).
 use numerals::float_of;
-use rules::{Cause, Counts, Phase, Rule, Search, Side};
+use rules::{Axis, Cause, Counts, Phase, Rule, Search, Side};
 
 // One of the seven counts.
 #[derive(Clone, Copy)]
@@ -28,6 +28,9 @@ pub(super) enum Part {
     Rule(Rule),
     Lo(usize, f64),
     Hi(usize, f64),
+    StandingNumber(usize, u64),
+    GatheredNumber(usize, u64),
+    BestNumber(u64),
 }
 
 // The rule that a number names, with the threshold that a word says.
@@ -45,9 +48,9 @@ fn phase_of(kind: u64, detail: u64) -> Option<Phase> {
     match kind {
         0 => Some(Phase::Building(detail as usize)),
         1 => Some(Phase::Reflecting),
-        2 => Some(Phase::Expanding(detail)),
-        3 => Some(Phase::Contracting(Side::Outside, detail)),
-        4 => Some(Phase::Contracting(Side::Inside, detail)),
+        2 => Some(Phase::Expanding),
+        3 => Some(Phase::Contracting(Side::Outside)),
+        4 => Some(Phase::Contracting(Side::Inside)),
         5 => Some(Phase::Shrinking(detail as usize)),
         6 => Some(Phase::Probing(detail as usize)),
         7 => Some(Phase::Ended(Cause::Settled)),
@@ -100,6 +103,9 @@ pub(super) fn part_of(part: u64, which: u64, value: u64) -> Option<Part> {
         (8, _) => Some(Part::Rule(rule_of(which, value)?)),
         (9, _) => Some(Part::Lo(axis_of(which)?, float_of(value))),
         (10, _) => Some(Part::Hi(axis_of(which)?, float_of(value))),
+        (11, _) => Some(Part::StandingNumber(place_of(which)?, value)),
+        (12, _) => Some(Part::GatheredNumber(place_of(which)?, value)),
+        (13, 0) => Some(Part::BestNumber(value)),
         _ => None,
     }
 }
@@ -117,10 +123,21 @@ fn put_count(counts: &mut Counts, count: Count, value: u64) {
     }
 }
 
-// Writes the cost at a place.
-fn put_cost(costs: &mut [u64; 9], place: usize, value: u64) {
-    if let Some(cost) = costs.get_mut(place) {
-        *cost = value;
+// Writes the cost or the number at a place.
+fn put_at(run: &mut [u64; 9], place: usize, value: u64) {
+    if let Some(entry) = run.get_mut(place) {
+        *entry = value;
+    }
+}
+
+// Writes one limit of an axis.
+fn put_limit(axes: &mut [Axis; 8], axis: usize, low: bool, limit: f64) {
+    if let Some(record) = axes.get_mut(axis) {
+        if low {
+            record.lo = limit;
+        } else {
+            record.hi = limit;
+        }
     }
 }
 
@@ -132,19 +149,14 @@ pub(super) fn put(search: &mut Search, part: Part) {
         Part::Readings(readings) => search.readings = readings,
         Part::Count(count, value) => put_count(&mut search.counts, count, value),
         Part::Phase(phase) => search.phase = phase,
-        Part::Standing(place, cost) => put_cost(&mut search.standing.costs, place, cost),
-        Part::Gathered(place, cost) => put_cost(&mut search.gathered.costs, place, cost),
+        Part::Standing(place, cost) => put_at(&mut search.standing.costs, place, cost),
+        Part::Gathered(place, cost) => put_at(&mut search.gathered.costs, place, cost),
         Part::Best(cost) => search.best.cost = cost,
         Part::Rule(rule) => search.setup.rule = rule,
-        Part::Lo(axis, lo) => {
-            if let Some(record) = search.setup.axes.get_mut(axis) {
-                record.lo = lo;
-            }
-        }
-        Part::Hi(axis, hi) => {
-            if let Some(record) = search.setup.axes.get_mut(axis) {
-                record.hi = hi;
-            }
-        }
+        Part::Lo(axis, lo) => put_limit(&mut search.setup.axes, axis, true, lo),
+        Part::Hi(axis, hi) => put_limit(&mut search.setup.axes, axis, false, hi),
+        Part::StandingNumber(place, number) => put_at(&mut search.standing.numbers, place, number),
+        Part::GatheredNumber(place, number) => put_at(&mut search.gathered.numbers, place, number),
+        Part::BestNumber(number) => search.best.number = number,
     }
 }

@@ -30,14 +30,20 @@ impl Display for PointWith<'_> {
     }
 }
 
-// The phase's number in docs/REPLAY.md, and its detail: the vertices or probes that an unfinished piece has so far, or the cost of r.
+// A vertex as words: its point, its cost and its number.
+fn vertex<W: fmt::Write>(f: &mut Formatter<W>, vertex: &Vertex) -> fmt::Result {
+    let with_cost = PointWith(&vertex.point, vertex.cost);
+    write!(f, "{with_cost}{}", Words(&[vertex.number]))
+}
+
+// The phase's number in docs/REPLAY.md, and its detail: the vertices or probes that an unfinished piece has so far.
 fn numbered(phase: Phase) -> (u64, u64) {
     match phase {
         Phase::Building(built) => (0, built as u64),
         Phase::Reflecting => (1, 0),
-        Phase::Expanding(cost) => (2, cost),
-        Phase::Contracting(Side::Outside, cost) => (3, cost),
-        Phase::Contracting(Side::Inside, cost) => (4, cost),
+        Phase::Expanding => (2, 0),
+        Phase::Contracting(Side::Outside) => (3, 0),
+        Phase::Contracting(Side::Inside) => (4, 0),
         Phase::Shrinking(shrunk) => (5, shrunk as u64),
         Phase::Probing(told) => (6, told as u64),
         Phase::Ended(Cause::Settled) => (7, 0),
@@ -58,9 +64,8 @@ impl Display for Answer {
             }
             Answer::Told(verdict) => write!(f, "t{}", Words(&[number_of(verdict)])),
             Answer::Best(best) => {
-                let Vertex { point, cost } = best.unwrap_or_default();
-                let words = Words(&[number_of(best)]);
-                write!(f, "b{words}{}", PointWith(&point, cost))
+                write!(f, "b{}", Words(&[number_of(best)]))?;
+                vertex(f, &best.unwrap_or_default())
             }
             Answer::State(search) => state(f, search),
             Answer::Put => write!(f, "p"),
@@ -134,8 +139,14 @@ fn progress<W: fmt::Write>(f: &mut Formatter<W>, search: &Search) -> fmt::Result
 // The nine places of a simplex.
 fn places<W: fmt::Write>(f: &mut Formatter<W>, simplex: &Simplex) -> fmt::Result {
     let (points, _) = simplex.points.as_chunks();
-    for (point, cost) in points.iter().zip(&simplex.costs) {
-        write!(f, "{}", PointWith(point, *cost))?;
+    let measures = simplex.costs.iter().zip(&simplex.numbers);
+    for (point, (cost, number)) in points.iter().zip(measures) {
+        let read = Vertex {
+            point: *point,
+            cost: *cost,
+            number: *number,
+        };
+        vertex(f, &read)?;
     }
     Ok(())
 }
@@ -145,8 +156,8 @@ fn state<W: fmt::Write>(f: &mut Formatter<W>, search: &Search) -> fmt::Result {
     write!(f, "s")?;
     setup(f, &search.setup)?;
     progress(f, search)?;
-    let best = PointWith(&search.best.point, search.best.cost);
-    write!(f, "{best}{}", Words(&search.center.map(bits_of)))?;
+    vertex(f, &search.best)?;
+    write!(f, "{}", Words(&search.center.map(bits_of)))?;
     places(f, &search.standing)?;
     places(f, &search.gathered)
 }

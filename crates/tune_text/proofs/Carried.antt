@@ -15,8 +15,8 @@ use Rattle.rules.specs.Opening.{all_in_range, in_limits, in_step, axes_checks, i
 use Rattle.rules.specs.Trial.{no_axis, trial}
 use Rattle.rules.specs.View.{is_ended}
 use Rattle.rules.specs.Calls.{undamaged, tell_verdict, asking, telling, showing}
-use Rattle.rules.specs.History.{Event, tell, after1, after, run, costs_in, history, reading}
-use Rattle.rules.specs.Claims.{Claims}
+use Rattle.rules.specs.History.{Event, tell, after1, after, run, costs_in, history}
+use Rattle.rules.specs.Claims.{IsBest, Claims}
 use Rattle.rules.specs.declared.Axis.{Axis}
 use Rattle.rules.specs.declared.Asked.{Asked}
 use Rattle.rules.specs.declared.Vertex.{Vertex}
@@ -163,15 +163,16 @@ module _ (p : Progress) (c : Carried p) where
       let due : length costs + 1 ≡ p.search.readings + 1 = ap (λ (m : ℕ). m + 1) (sym claimed.readings) in
       (a, claimed.asks live, λ cost. rw due (tell_next p.search sound live cost))
 
-  -- the last line of a search is never a refusal: without a reading it has no point, else the best that is shown
+  -- the last line of a search is never a refusal: without a reading it has no point, else the best that is shown, the earliest least reading
   pub best_shown :
       (p.search.readings ≡ 0 → search_end p.search ≡ end_line (ending_of p.search.phase))
-      × ((p.search.readings ≡ 0 → ⊥) → (v : Vertex) × (showing p.search ≡ Ok v) × (search_end p.search ≡ best_line (ending_of p.search.phase) p.search.setup.n v.point v.cost))
+      × ((p.search.readings ≡ 0 → ⊥)
+      → (v : Vertex) × IsBest begun told_so_far v × (showing p.search ≡ Ok v) × (search_end p.search ≡ best_line (ending_of p.search.phase) p.search.setup.n v))
   best_shown = (
     end_unread p.search,
     λ h.
         let b = claimed.best (omega (arith, claimed.readings)) in
-        (reading begun told_so_far b.0, b.2, end_shown p.search (reading begun told_so_far b.0) h b.2),
+        (b.0, b.1, b.2, end_shown p.search b.0 h b.2),
   )
 
 -- ---- the opening

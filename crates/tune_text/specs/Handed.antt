@@ -19,7 +19,7 @@ number_read f xs = cond (is_number f xs) (Some (field_value f xs)) None
 unfoldable pub numbers_read : Form → ℕ → List ℕ → Option (List ℕ)
 numbers_read f k line = cond (is_line f k line) (Some (values f line)) None
 
--- a line in the making has room for k more bytes; the longest line has 178
+-- a line in the making has room for k more bytes; the longest line has 190
 abbrev pub Room : ℕ → List ℕ → Type 0
 Room k line = length line + k ≤ 192
 

@@ -3,6 +3,7 @@ use Rattle.std.specs.Prelude.{List, [], ◌∷◌, ◌++◌, ℕ, zero, suc, min
 use Rattle.std.specs.Float.{binary64, nan}
 use Rattle.std.specs.Float.Ieee.{to_bits}
 use Rattle.io.specs.Digits.{last_digits}
+use Rattle.rules.specs.declared.Vertex.{Vertex}
 use Rattle.rules.specs.declared.Cause.{Cause}
 use Rattle.rules.specs.declared.Cause.TheVariants.{Settled, Budget}
 use Rattle.tune_text.specs.Ascii.{bytes}
@@ -17,13 +18,13 @@ unfoldable pub coordinates : ℕ → List Float → List ℕ
 coordinates zero x = []
 coordinates (suc k) x = coordinates k x ++ spaced_bits (get_or x k nan)
 
--- "the point's n coordinates and the cost", to the end of the line; a point has eight
-abbrev pub point_and_cost : ℕ → List Float → ℕ → List ℕ
-point_and_cost n x cost = coordinates (min n 8) x ++ (space ∷ (decimal cost ++ (newline ∷ [])))
+-- "the point's n coordinates and the cost" of a reading; a point has eight
+abbrev pub point_and_cost : ℕ → Vertex → List ℕ
+point_and_cost n v = coordinates (min n 8) v.point ++ (space ∷ decimal v.cost)
 
 -- "per accepted reading, its number, the point's n coordinates and the cost"
-abbrev pub reading_line : ℕ → ℕ → List Float → ℕ → List ℕ
-reading_line number n x cost = decimal number ++ point_and_cost n x cost
+abbrev pub reading_line : ℕ → Vertex → List ℕ
+reading_line n v = decimal v.number ++ (point_and_cost n v ++ (newline ∷ []))
 
 -- the word of a cause: `settled` or `budget`
 abbrev pub cause_word : Cause → List ℕ
@@ -39,9 +40,9 @@ word (Some c) = cause_word c
 abbrev pub end_and : Option Cause → List ℕ
 end_and c = bytes "end " ++ word c
 
--- "last `end`, the cause, best point and cost"
-abbrev pub best_line : Option Cause → ℕ → List Float → ℕ → List ℕ
-best_line c n x cost = end_and c ++ point_and_cost n x cost
+-- "last `end`, the cause, best point and cost"; document 02: "The program's last line, if it shows a point, ends with that number"
+abbrev pub best_line : Option Cause → ℕ → Vertex → List ℕ
+best_line c n v = end_and c ++ (point_and_cost n v ++ (space ∷ (decimal v.number ++ (newline ∷ []))))
 
 -- the last line "without point and cost if no reading was accepted"
 abbrev pub end_line : Option Cause → List ℕ

@@ -86,7 +86,7 @@ with_axis k a q = record { n = q.n; budget = q.budget; spread = q.spread; axes =
 abbrev pub turn_told : Verdict → Progress → Asked → Search → ℕ → Turned
 turn_told (Ok _) p a s cost = record {
   progress = record { stage = Costs; request = p.request; search = s };
-  line = reading_line a.number p.search.setup.n a.trial.point cost;
+  line = reading_line p.search.setup.n (record { point = a.trial.point; cost = cost; number = a.number });
 }
 turn_told (Err r) p a s cost = last_turn p (refused_line (number_of r))
 
@@ -111,9 +111,9 @@ abbrev pub ending_of : Phase → Option Cause
 ending_of (Ended c) = Some c
 ending_of _ = None
 
--- the best point and cost, where a reading was accepted
+-- the best reading, where one was accepted
 abbrev pub best_by : Result Vertex Refusal → Search → List ℕ
-best_by (Ok v) s = best_line (ending_of s.phase) s.setup.n v.point v.cost
+best_by (Ok v) s = best_line (ending_of s.phase) s.setup.n v
 best_by (Err r) s = refused_line (number_of r)
 
 -- the last line of a search

@@ -60,24 +60,26 @@ fn put_last(line: &mut Line, n: u64)
     put(line, b"\n");
 }
 
-// Adds the first n coordinates of a point, its cost and the line's end.
+// Adds the first n coordinates of a vertex and its cost.
 #[tactic(auto, using(crate::proofs::Laws::Coordinates::lengths))]
 fn put_point_and_cost(line: &mut Line, n: usize, vertex: &Vertex)
-    requires { Room 158 line.old.items }
-    ensures { line.new.items ≡ line.old.items ++ point_and_cost n vertex.now.point vertex.now.cost }
+    requires { Room 157 line.old.items }
+    ensures added { line.new.items ≡ line.old.items ++ point_and_cost n vertex.now }
+    ensures short { length (point_and_cost n vertex.now) ≤ 157 }
 {
     put_point(line, n, &vertex.point);
     put(line, b" ");
-    put_last(line, vertex.cost);
+    put_decimal(line, vertex.cost);
 }
 
 // An accepted reading: its number, its point and its cost.
-pub(super) fn reading(number: u64, n: usize, vertex: &Vertex) -> Line
-    ensures { result.items ≡ reading_line number n vertex.now.point vertex.now.cost }
+pub(super) fn reading(n: usize, vertex: &Vertex) -> Line
+    ensures { result.items ≡ reading_line n vertex.now }
 {
     let mut line = Line::new();
-    put_decimal(&mut line, number);
+    put_decimal(&mut line, vertex.number);
     put_point_and_cost(&mut line, n, vertex);
+    put(&mut line, b"\n");
     line
 }
 
@@ -94,16 +96,18 @@ fn end_and(cause: Option<Cause>) -> Line
     line
 }
 
-// The last line with the best point and cost.
+// The last line with the best reading: its point, its cost and its number.
 pub(super) fn best(cause: Option<Cause>, n: usize, vertex: &Vertex) -> Line
-    ensures { result.items ≡ best_line cause n vertex.now.point vertex.now.cost }
+    ensures { result.items ≡ best_line cause n vertex.now }
 {
     let mut line = end_and(cause);
     put_point_and_cost(&mut line, n, vertex);
+    put(&mut line, b" ");
+    put_last(&mut line, vertex.number);
     line
 }
 
-// The last line without a best point and its cost.
+// The last line without a best reading.
 pub(super) fn end(cause: Option<Cause>) -> Line
     ensures { result.items ≡ end_line cause }
 {

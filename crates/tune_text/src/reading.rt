@@ -62,7 +62,14 @@ impl Progress {
         let Asked { number, trial } = engine::ask(&self.search)?;
         let point = trial.point;
         engine::tell(&mut self.search, number, cost)?;
-        Ok(lines::reading(number, n, &Vertex { point, cost }))
+        Ok(lines::reading(
+            n,
+            &Vertex {
+                point,
+                cost,
+                number,
+            },
+        ))
     }
 
     // A cost line; none where it is malformed.

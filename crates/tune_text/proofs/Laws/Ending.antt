@@ -17,7 +17,7 @@ module _ (s : Search) where
   end_unread e = rw (eq-eqb s.readings 0 e)
 
   -- the best reading is shown
-  pub end_shown : (v : Vertex) → s.readings ≢ 0 → showing s ≡ Ok v → search_end s ≡ best_line (ending_of s.phase) s.setup.n v.point v.cost
+  pub end_shown : (v : Vertex) → s.readings ≢ 0 → showing s ≡ Ok v → search_end s ≡ best_line (ending_of s.phase) s.setup.n v
   unfolding search_end
   end_shown v h e = rw (ne_eqb s.readings 0 h, e)
 
