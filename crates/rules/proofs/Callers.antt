@@ -6,14 +6,13 @@ use mathlib.Core.List.{List, [], ◌∷◌, ◌++◌, Memᴰ}
 use mathlib.Core.Logic.{◌↔◌, ◌⊎◌, ⊎_elim}
 use Prim.Native.Nat.{ℕ, ◌+◌, ◌-◌, ◌*◌, ◌≤◌, ◌<◌}
 use native.Mathlib.Omega.{arith}
-use lib.ListN.{length, get_or, length-append}
-use lib.Dec.{eqb}
+use lib.ListN.{length, get_or}
 use lib.Ieee.{Float, nan}
-use borrow.Author.Tests.{eqb-true, ne_eqb, eq-eqb, lt-leb}
+use borrow.Author.Tests.{ne_eqb, eq-eqb, lt-leb, not-true}
 use Rattle.std.proofs.lemmas.Bool.{cases_Bool}
 use Rattle.rules.specs.Binary64.{◌≤ᶠ◌}
 use Rattle.rules.specs.Numbers.{max_cost}
-use Rattle.rules.specs.Simplex.{cost_of}
+use Rattle.rules.specs.Simplex.{cost_of, point_of}
 use Rattle.rules.specs.View.{is_ended}
 use Rattle.rules.specs.Trial.{no_axis, target, trial}
 use Rattle.rules.specs.Refusals.{Verdict, check, answered}
@@ -31,9 +30,10 @@ use Rattle.rules.specs.declared.Vertex.{Vertex}
 use Rattle.rules.specs.declared.Refusal.{Refusal}
 use Rattle.rules.specs.declared.Refusal.TheVariants.{SearchEnded, CostTooHigh, WrongNumber, NoReading, Damaged}
 use Rattle.rules.proofs.Laws.Openings.{opened_verdict, opened_fresh, opened_axis}
-use Rattle.rules.proofs.Laws.Histories.{Joined, costs_in_append}
+use Rattle.rules.proofs.Laws.Histories.{Joined}
 use Rattle.rules.proofs.Runs.Begun.{Begun, whole_run}
 use Rattle.rules.proofs.Runs.Calling.{run_undamaged, all_follow}
+use Rattle.rules.proofs.Runs.Telling.{ToldBy, before_here, cost_here, joins_next, one_more, told_by_call}
 use Rattle.rules.proofs.Claim.{opened_begun, claim}
 
 -- ---- the calls' verdicts on a search that is not damaged
@@ -91,10 +91,6 @@ module _ (s : Search) (h : undamaged s ≡ true) where
   tell_not_12 : (k c : ℕ) → Not12 (telling s k c).verdict
   unfolding telling tell_verdict
   tell_not_12 k c e = grind (arith, h)
-
--- a tell that joins has the next number
-joins_number : (o : Search) (h : List Event) (k c : ℕ) → joins o h k c ≡ true → eqb k (length (costs_in h) + 1) ≡ true
-joins_number o h k c e = (simp and-eq-true_iff at e).0.1
 
 -- ---- one call more at the end of a list
 
@@ -205,15 +201,13 @@ module _ (n : ℕ) (axes : List Axis) (rule : Option Rule) (coefficients : Coeff
   camera_wrong cs k c d = tell_wrong (reached cs) (sound_always cs) k c (λ e. d (e ∙ ap (λ (m : ℕ). m + 1) (claims cs).readings))
 
   pub camera_twice : (cs : List Call) (k c d : ℕ) → (telling (reached cs) k c).verdict ≡ Ok tt → Unmoved (telling (reached cs) k c).search k d
-  unfolding costs_in
   camera_twice cs k c d e =
       let more = cs ++ tell k c ∷ [] in
       let h = accepted_history cs in
       let j = ((claims cs).accepts k c).0 e in
       let longer : accepted_history more ≡ h ++ told c ∷ [] = history_snoc opened_search [] cs (tell k c) ∙ rw j in
-      let costs : accepted_costs more ≡ costs_in h ++ c ∷ [] = rw longer (costs_in_append h (told c ∷ [])) in
-      let number : k ≡ length (costs_in h) + 1 = eqb-true k (length (costs_in h) + 1) (joins_number opened_search h k c j) in
-      let late : k ≡ length (accepted_costs more) + 1 → ⊥ = λ q. omega (arith, rw (costs, length-append (costs_in h) (c ∷ [])) at q) in
+      let costs : length (accepted_costs more) ≡ length (costs_in h) + 1 = rw longer (one_more opened_search h c) in
+      let late : k ≡ length (accepted_costs more) + 1 → ⊥ = λ q. omega (arith, costs, joins_next opened_search h k c j) in
       rw (after_snoc opened_search cs (tell k c)) at (camera_wrong more k d late)
 
   -- where the search has not ended, the next number with a cost above the largest is refused as 9, and the search stays
@@ -231,6 +225,37 @@ module _ (n : ℕ) (axes : List Axis) (rule : Option Rule) (coefficients : Coeff
       let b = (claims cs).best l in
       let cost : b.0.cost ≡ get_or (accepted_costs cs) (b.0.number - 1) 0 = ap cost_of b.1.read.very in
       (b.0, b.2, b.1.read, λ j m. rw cost (b.1.least.least j m))
+
+  -- the frame behind a reading: the call that told its cost under its number, where ask would have answered its trial under that number
+  pub record Frame (cs : List Call) (v : Vertex) : Type 0 where
+    pub before : List Call
+    pub since : List Call
+    pub told_by : cs ≡ before ++ tell v.number v.cost ∷ since
+    pub taken : (telling (reached before) v.number v.cost).verdict ≡ Ok tt
+    pub asked : (a : Asked) × (asking (reached before) ≡ Ok a) × (a.number ≡ v.number) × (a.trial.point ≡ v.point)
+
+  -- each vertex that stands, each that is gathered and the best name theirs
+  pub panel_frame : (cs : List Call) (v : Vertex) → IsRead opened_search (accepted_history cs) v → Frame cs v
+  unfolding costs_in
+  panel_frame cs v r =
+      let o = opened_search in
+      let k = v.number - 1 in
+      let t = told_by_call o [] cs k (omega arith) (omega (arith, r.from_1, r.accepted)) in
+      let h = accepted_history t.before in
+      let number : k + 1 ≡ v.number = omega (arith, r.from_1) in
+      let told_before : length (costs_in h) ≡ k = omega (arith, joins_next o h (k + 1) t.cost t.joined) in
+      let cost : v.cost ≡ t.cost = ap cost_of r.very ∙ cost_here (accepted_history cs) h t.rest t.cost k t.events told_before in
+      let same = before_here (accepted_history cs) h t.rest t.cost k t.events told_before in
+      let point : (trial (run o h)).point ≡ v.point = sym (ap point_of r.very ∙ ap (λ (p : List Event). (trial (run o p)).point) same) in
+      let call : ◌≡◌ {A = Call} (tell (k + 1) t.cost) (tell v.number v.cost) = λ i. tell (number i) (sym cost i) in
+      let live : is_ended (reached t.before).phase ≡ false = rw (claims t.before).carried (not-true _ (simp and-eq-true_iff at t.joined).0.0) in
+      record {
+        before = t.before;
+        since = t.since;
+        told_by = t.calls ∙ ap (λ (c : Call). t.before ++ c ∷ t.since) call;
+        taken = subst (λ (i : ℕ). (telling (reached t.before) i v.cost).verdict ≡ Ok tt) number (rw cost (((claims t.before).accepts (k + 1) t.cost).1 t.joined));
+        asked = (record { number = length (costs_in h) + 1; trial = trial (run o h) }, (claims t.before).asks live, omega arith, point);
+      }
 
   pub panel_none : (cs : List Call) → length (accepted_costs cs) ≡ 0 → showing (reached cs) ≡ Err NoReading
   panel_none cs e = best_none (reached cs) (sound_always cs) ((claims cs).readings ∙ e)

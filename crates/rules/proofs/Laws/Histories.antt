@@ -104,17 +104,6 @@ mem_readings_of s (told c ∷ h) v m =
     (λ n. let r = mem_readings_of (accept s c) h v n in (suc r.0, suc-le-suc r.1, r.2 ∙ reading_later s c h r.0))
     (Memᴰ.cases_cons m)
 
--- what comes before a cost does not change with what is told after it
-before_append : (p q : List Event) (k : ℕ) → k < length (costs_in p) → before_cost k (p ++ q) ≡ before_cost k p
-unfolding costs_in before_cost
-before_append [] q k l = absurd (not-suc-le-zero l)
-before_append (told c ∷ p) q zero l = refl
-before_append (told c ∷ p) q (suc k) l = ap (λ (h : List Event). told c ∷ h) (before_append p q k (le_of_suc-le-suc l))
-
--- a reading does not change with what is told after it
-pub reading_append : (s : Search) (p q : List Event) (k : ℕ) → k < length (costs_in p) → reading s (p ++ q) k ≡ reading s p k
-reading_append s p q k l = rw (before_append p q k l, costs_in_append p q, get_or-append (costs_in p) (costs_in q) 0 k l)
-
 -- ---- accepted histories
 
 pub joined_left : (s : Search) (p q : List Event) → Joined s (p ++ q) → Joined s p
