@@ -1,7 +1,9 @@
 -- What a search carries, part by part, at moments of the worked searches: a number that is written in another's place shows.
-use Rattle.std.specs.Prelude.{List, [], ◌∷◌, ◌++◌, map, ℕ, take, replicate}
+use Rattle.std.specs.Prelude.{List, [], ◌∷◌, ◌++◌, map, ℕ, length, take, replicate}
 use Rattle.std.specs.Float.{binary64}
 use Rattle.std.specs.Float.Ieee.{to_bits}
+use Rattle.rules.specs.Accept.{gathered_of}
+use Rattle.rules.specs.Calls.{standing_of}
 use Rattle.rules.specs.History.{told}
 use Rattle.rules.specs.Tally.{made, others, probes_in, open_in, readings_by}
 use Rattle.rules.specs.Examples.{after_costs}
@@ -26,9 +28,9 @@ carries s =
     s.readings ∷ s.counts.builds ∷ s.counts.reflections ∷ s.counts.expansions ∷ s.counts.contractions ∷ s.counts.shrinks ∷ s.counts.probes
     ∷ s.counts.unfinished ∷ s.best.cost ∷ s.standing.costs ++ s.gathered.costs
 
--- the best's number; the numbers at the nine standing places, and at the nine gathered ones
+-- how many vertices stand, and how many are gathered; the best's number; the numbers at the nine standing places, and at the nine gathered ones
 abbrev pub remembers : Search → List ℕ
-remembers s = s.best.number ∷ s.standing.numbers ++ s.gathered.numbers
+remembers s = length (standing_of s) ∷ length (gathered_of s) ∷ s.best.number ∷ s.standing.numbers ++ s.gathered.numbers
 
 -- the numbers that the rules give
 unfoldable pub parts_given : List (List ℕ)
@@ -93,17 +95,27 @@ numbers_given =
 -- what document 02 says of each, in this order: each vertex has the place in `odd_costs` or `rounds_costs`, from 1, of its own cost
 unfoldable pub numbers_stated : List (List ℕ)
 numbers_stated =
-    (0 ∷ (replicate 9 0) ++ (replicate 9 0)) ∷ (1 ∷ (replicate 9 0) ++ (1 ∷ replicate 8 0)) ∷ (1 ∷ (1 ∷ 2 ∷ 3 ∷ replicate 6 0) ++ (replicate 9 0))
-    ∷ (4 ∷ (1 ∷ 2 ∷ 3 ∷ replicate 6 0) ++ (4 ∷ replicate 8 0)) ∷ (5 ∷ (5 ∷ 1 ∷ 2 ∷ replicate 6 0) ++ (replicate 9 0))
-    ∷ (6 ∷ (5 ∷ 1 ∷ 2 ∷ replicate 6 0) ++ (6 ∷ replicate 8 0)) ∷ (6 ∷ (6 ∷ 5 ∷ 1 ∷ replicate 6 0) ++ (replicate 9 0))
-    ∷ (6 ∷ (6 ∷ 8 ∷ 5 ∷ replicate 6 0) ++ (replicate 9 0))
-    ∷ (6 ∷ (6 ∷ 8 ∷ 5 ∷ replicate 6 0) ++ (9 ∷ replicate 8 0)) ∷ (6 ∷ (6 ∷ 8 ∷ 10 ∷ replicate 6 0) ++ (replicate 9 0))
-    ∷ (6 ∷ (6 ∷ 8 ∷ 10 ∷ replicate 6 0) ++ (11 ∷ replicate 8 0)) ∷ (6 ∷ (6 ∷ 8 ∷ 12 ∷ replicate 6 0) ++ (replicate 9 0))
-    ∷ (6 ∷ (6 ∷ 8 ∷ 12 ∷ replicate 6 0) ++ (13 ∷ replicate 8 0)) ∷ (6 ∷ (6 ∷ 8 ∷ 12 ∷ replicate 6 0) ++ (6 ∷ replicate 8 0))
-    ∷ (6 ∷ (6 ∷ 8 ∷ 12 ∷ replicate 6 0) ++ (6 ∷ 15 ∷ replicate 7 0)) ∷ (16 ∷ (16 ∷ 6 ∷ 15 ∷ replicate 6 0) ++ (replicate 9 0))
-    ∷ (2 ∷ (2 ∷ 1 ∷ 3 ∷ replicate 6 0) ++ (replicate 9 0)) ∷ (2 ∷ (2 ∷ 1 ∷ 3 ∷ replicate 6 0) ++ (replicate 9 0))
-    ∷ (7 ∷ (2 ∷ 1 ∷ 3 ∷ replicate 6 0) ++ (7 ∷ replicate 8 0)) ∷ (7 ∷ (2 ∷ 1 ∷ 3 ∷ replicate 6 0) ++ (7 ∷ 8 ∷ replicate 7 0))
-    ∷ (7 ∷ (7 ∷ 8 ∷ 9 ∷ replicate 6 0) ++ (replicate 9 0))
+    (0 ∷ 0 ∷ 0 ∷ (replicate 9 0) ++ (replicate 9 0))
+    ∷ (0 ∷ 1 ∷ 1 ∷ (replicate 9 0) ++ (1 ∷ replicate 8 0))
+    ∷ (3 ∷ 0 ∷ 1 ∷ (1 ∷ 2 ∷ 3 ∷ replicate 6 0) ++ (replicate 9 0))
+    ∷ (3 ∷ 1 ∷ 4 ∷ (1 ∷ 2 ∷ 3 ∷ replicate 6 0) ++ (4 ∷ replicate 8 0))
+    ∷ (3 ∷ 0 ∷ 5 ∷ (5 ∷ 1 ∷ 2 ∷ replicate 6 0) ++ (replicate 9 0))
+    ∷ (3 ∷ 1 ∷ 6 ∷ (5 ∷ 1 ∷ 2 ∷ replicate 6 0) ++ (6 ∷ replicate 8 0))
+    ∷ (3 ∷ 0 ∷ 6 ∷ (6 ∷ 5 ∷ 1 ∷ replicate 6 0) ++ (replicate 9 0))
+    ∷ (3 ∷ 0 ∷ 6 ∷ (6 ∷ 8 ∷ 5 ∷ replicate 6 0) ++ (replicate 9 0))
+    ∷ (3 ∷ 1 ∷ 6 ∷ (6 ∷ 8 ∷ 5 ∷ replicate 6 0) ++ (9 ∷ replicate 8 0))
+    ∷ (3 ∷ 0 ∷ 6 ∷ (6 ∷ 8 ∷ 10 ∷ replicate 6 0) ++ (replicate 9 0))
+    ∷ (3 ∷ 1 ∷ 6 ∷ (6 ∷ 8 ∷ 10 ∷ replicate 6 0) ++ (11 ∷ replicate 8 0))
+    ∷ (3 ∷ 0 ∷ 6 ∷ (6 ∷ 8 ∷ 12 ∷ replicate 6 0) ++ (replicate 9 0))
+    ∷ (3 ∷ 1 ∷ 6 ∷ (6 ∷ 8 ∷ 12 ∷ replicate 6 0) ++ (13 ∷ replicate 8 0))
+    ∷ (3 ∷ 1 ∷ 6 ∷ (6 ∷ 8 ∷ 12 ∷ replicate 6 0) ++ (6 ∷ replicate 8 0))
+    ∷ (3 ∷ 2 ∷ 6 ∷ (6 ∷ 8 ∷ 12 ∷ replicate 6 0) ++ (6 ∷ 15 ∷ replicate 7 0))
+    ∷ (3 ∷ 0 ∷ 16 ∷ (16 ∷ 6 ∷ 15 ∷ replicate 6 0) ++ (replicate 9 0))
+    ∷ (3 ∷ 0 ∷ 2 ∷ (2 ∷ 1 ∷ 3 ∷ replicate 6 0) ++ (replicate 9 0))
+    ∷ (3 ∷ 0 ∷ 2 ∷ (2 ∷ 1 ∷ 3 ∷ replicate 6 0) ++ (replicate 9 0))
+    ∷ (3 ∷ 1 ∷ 7 ∷ (2 ∷ 1 ∷ 3 ∷ replicate 6 0) ++ (7 ∷ replicate 8 0))
+    ∷ (3 ∷ 2 ∷ 7 ∷ (2 ∷ 1 ∷ 3 ∷ replicate 6 0) ++ (7 ∷ 8 ∷ replicate 7 0))
+    ∷ (3 ∷ 0 ∷ 7 ∷ (7 ∷ 8 ∷ 9 ∷ replicate 6 0) ++ (replicate 9 0))
     ∷ []
 
 -- the tally of the history that these costs are: finished builds, reflections, expansions, contractions and shrinks; the other iterations; probe

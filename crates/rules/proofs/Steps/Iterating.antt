@@ -66,7 +66,6 @@ module _ (rs : List Vertex) (v : Vertex) (s : Search) (inv : Inv rs s) (after : 
   in_place : (i : ℕ) → 1 ≤ s.counts.builds → i ≤ s.setup.n → (get_or inv.vs i blank).cost ≤ (get_or inv.vs s.setup.n blank).cost
   in_place i l h = ordered_at inv.vs i s.setup.n inv.stands.sorted h (omega (arith, inv.stands.all l))
 
-
   -- ---- the reflected point
 
   module _ (now : s.phase ≡ Reflecting) (idle : Idle 0 s.readings s.counts) (leads : Leads inv.vs s.best) where
