@@ -57,8 +57,8 @@ fn main(rt: HostRuntime) -> io::Result<()> {
             let (mut offset_text, mut tilt_text) = (ryu::Buffer::new(), ryu::Buffer::new());
             let (offset, tilt) = (offset_text.format(offset), tilt_text.format(tilt));
             println!(rt;
-                "{readings} readings, best at {offset}, {tilt} with cost {}",
-                best.cost
+                "{readings} readings, best at {offset}, {tilt} with cost {}, reading {}",
+                best.cost, best.number
             )
         }
         Err(refusal) => println!(rt; "refused {}", engine::refusal_number(refusal)),
