@@ -49,7 +49,11 @@ pub(super) fn accept(s: &mut Search, cost: u64)
 {
     let point = trial(s, s.phase).point;
     let number = s.readings + 1;
-    let v = Vertex { point, cost, number };
+    let v = Vertex {
+        point,
+        cost,
+        number,
+    };
     let decision = decided(s, cost);
     let piece = finished_by(decision);
     let u = entrant(s, decision, v);

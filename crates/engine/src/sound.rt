@@ -4,9 +4,7 @@ ghost use Rattle.std.specs.Prelude.{◌≡◌, ◌≤◌};
 ghost use Rattle.rules.specs.Calls.{sound_phase, standing_in, in_order, all_costs, sound_rule, sound_counts, intact, undamaged, ask_verdict, tell_verdict, best_verdict};
 
 use super::view::{gathered_in, is_ended};
-use rules::{
-    Counts, MAX_BUDGET, MAX_COST, MAX_SPREAD, Phase, Refusal, Rule, Search, Simplex,
-};
+use rules::{Counts, MAX_BUDGET, MAX_COST, MAX_SPREAD, Phase, Refusal, Rule, Search, Simplex};
 
 // Whether a phase's vertex or probe number is one of its trials.
 fn sound_phase(n: usize, readings: u64, phase: Phase) -> bool

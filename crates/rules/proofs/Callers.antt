@@ -33,7 +33,7 @@ use Rattle.rules.proofs.Laws.Openings.{opened_verdict, opened_fresh, opened_axis
 use Rattle.rules.proofs.Laws.Histories.{Joined}
 use Rattle.rules.proofs.Runs.Begun.{Begun, whole_run}
 use Rattle.rules.proofs.Runs.Calling.{run_undamaged, all_follow}
-use Rattle.rules.proofs.Runs.Telling.{ToldBy, before_here, cost_here, joins_next, one_more, told_by_call}
+use Rattle.rules.proofs.Runs.Telling.{before_here, cost_here, joins_next, one_more, told_by_call}
 use Rattle.rules.proofs.Claim.{opened_begun, claim}
 
 -- ---- the calls' verdicts on a search that is not damaged

@@ -1,7 +1,6 @@
 -- A reading of a probe round. Assumes nothing.
 use mathlib.Core.Path.{◌≡◌, refl}
 use mathlib.Core.Bool.{false}
-use mathlib.Core.List.Memᴰ
 use mathlib.Core.List.{List, [], ◌∷◌}
 use Prim.Native.Nat.{ℕ, ◌+◌, ◌*◌, ◌≤◌, ◌<◌}
 use native.Mathlib.Omega.{arith}
@@ -19,7 +18,7 @@ use Rattle.rules.specs.declared.Phase.TheVariants.{Building, Probing, Ended}
 use Rattle.rules.specs.declared.Cause.TheVariants.{Settled}
 use Rattle.rules.specs.declared.Keeping.TheVariants.{Nothing}
 use Rattle.rules.specs.declared.Decision.TheVariants.{Go, Restart}
-use Rattle.rules.proofs.Steps.Invariant.{Known, Leads, Idle, AtBuild, At, Inv}
+use Rattle.rules.proofs.Steps.Invariant.{Leads, Idle, AtBuild, At, Inv}
 use Rattle.rules.proofs.Steps.Noting.{◌▹◌, NotedWith, known_new, known_one, best_falls, best_stays}
 use Rattle.rules.proofs.Steps.Stepping.{NoRound, Goes, step}
 use Rattle.rules.proofs.Steps.Moving.{goes, go_step}
