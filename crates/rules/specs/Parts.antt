@@ -2,12 +2,14 @@
 use Rattle.std.specs.Prelude.{List, [], ◌∷◌, ◌++◌, map, ℕ, length, take, replicate}
 use Rattle.std.specs.Float.{binary64}
 use Rattle.std.specs.Float.Ieee.{to_bits}
+use Rattle.rules.specs.Binary64.{0ᶠ}
 use Rattle.rules.specs.Accept.{gathered_of}
 use Rattle.rules.specs.Calls.{standing_of}
 use Rattle.rules.specs.History.{told}
 use Rattle.rules.specs.Tally.{made, others, probes_in, open_in, readings_by}
 use Rattle.rules.specs.Examples.{after_costs}
 use Rattle.rules.specs.Cases.{bits}
+use Rattle.rules.specs.Answers.{fresh_with}
 use Rattle.rules.specs.Walks.{begun, odd, odd_costs, rounds, rounds_costs}
 use Rattle.rules.specs.declared.Opening.{Opening}
 use Rattle.rules.specs.declared.Simplex.{Simplex}
@@ -90,9 +92,11 @@ numbers_given =
     -- after a build with two equal costs; a probe equal to the best; a lower one, around which a build begins; amid that build; after it
     ∷ remembers (at rounds rounds_costs 3) ∷ remembers (at rounds rounds_costs 6) ∷ remembers (at rounds rounds_costs 7)
     ∷ remembers (at rounds rounds_costs 8) ∷ remembers (at rounds rounds_costs 9)
+    -- the budget ends the search with r, and amid a shrink: what is gathered stays, and counts no more
+    ∷ remembers (after_costs (fresh_with 2 0ᶠ 4) (30 ∷ 20 ∷ 10 ∷ 5 ∷ [])) ∷ remembers (after_costs (fresh_with 2 0ᶠ 6) (30 ∷ 20 ∷ 10 ∷ 30 ∷ 30 ∷ 9 ∷ []))
     ∷ []
 
--- what document 02 says of each, in this order: each vertex has the place in `odd_costs` or `rounds_costs`, from 1, of its own cost
+-- what document 02 says of each, in this order: each vertex has the place, from 1, of its own cost among those told
 unfoldable pub numbers_stated : List (List ℕ)
 numbers_stated =
     (0 ∷ 0 ∷ 0 ∷ (replicate 9 0) ++ (replicate 9 0))
@@ -116,6 +120,8 @@ numbers_stated =
     ∷ (3 ∷ 1 ∷ 7 ∷ (2 ∷ 1 ∷ 3 ∷ replicate 6 0) ++ (7 ∷ replicate 8 0))
     ∷ (3 ∷ 2 ∷ 7 ∷ (2 ∷ 1 ∷ 3 ∷ replicate 6 0) ++ (7 ∷ 8 ∷ replicate 7 0))
     ∷ (3 ∷ 0 ∷ 7 ∷ (7 ∷ 8 ∷ 9 ∷ replicate 6 0) ++ (replicate 9 0))
+    ∷ (3 ∷ 0 ∷ 4 ∷ (3 ∷ 2 ∷ 1 ∷ replicate 6 0) ++ (4 ∷ replicate 8 0))
+    ∷ (3 ∷ 0 ∷ 6 ∷ (3 ∷ 2 ∷ 1 ∷ replicate 6 0) ++ (6 ∷ 3 ∷ replicate 7 0))
     ∷ []
 
 -- the tally of the history that these costs are: finished builds, reflections, expansions, contractions and shrinks; the other iterations; probe
