@@ -106,18 +106,18 @@ pub standing_list : (rs : List Vertex) (s : Search) (inv : Inv rs s) → standin
 standing_list rs s inv = standing_are inv.noted inv.stands
 
 -- no fewer are gathered than the phase says
-gathered_most : (p : Phase) (t : Setup) (vs gs : List Vertex) (k : ℕ) (c : Counts) (b : Vertex) → At p t vs gs k c b → gathered_in p ≤ length gs
-gathered_most (Building i) t vs gs k c b h = omega (arith, h.many)
-gathered_most Expanding t vs gs k c b h = rw h.1.holds (omega arith)
-gathered_most (Contracting side) t vs gs k c b h = rw h.1.holds (omega arith)
-gathered_most (Shrinking j) t vs gs k c b h = omega (arith, h.many)
-gathered_most p t vs gs k c b h = omega arith
+gathered_enough : (p : Phase) (t : Setup) (vs gs : List Vertex) (k : ℕ) (c : Counts) (b : Vertex) → At p t vs gs k c b → gathered_in p ≤ length gs
+gathered_enough (Building i) t vs gs k c b h = omega (arith, h.many)
+gathered_enough Expanding t vs gs k c b h = rw h.1.holds (omega arith)
+gathered_enough (Contracting side) t vs gs k c b h = rw h.1.holds (omega arith)
+gathered_enough (Shrinking j) t vs gs k c b h = omega (arith, h.many)
+gathered_enough p t vs gs k c b h = omega arith
 
 -- and those that it says are among the gathered ones that the invariant names
 pub gathered_list : (rs : List Vertex) (s : Search) (inv : Inv rs s) → gathered_of s ≡ take (gathered_in s.phase) inv.gs
 gathered_list rs s inv =
-    let most = gathered_most s.phase s.setup inv.vs inv.gs s.readings s.counts s.best inv.phase in
-    rw inv.gathers.are (unpack_take (gathered_in s.phase) inv.gs (whole inv.noted inv.gathers.known) most)
+    let enough = gathered_enough s.phase s.setup inv.vs inv.gs s.readings s.counts s.best inv.phase in
+    rw inv.gathers.are (unpack_take (gathered_in s.phase) inv.gs (whole inv.noted inv.gathers.known) enough)
 
 -- ---- any decision
 
