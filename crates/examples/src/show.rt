@@ -43,7 +43,12 @@ fn phase_name(phase: Phase) -> &'static str {
 pub(super) fn state(rt: &impl Print, s: &Search) -> io::Result<()> {
     let best = engine::best(s).unwrap_or_default();
     let point = Coordinates(&best.point[..s.setup.n.min(8)]);
-    println!(rt; "{}, best{point} {} {}", phase_name(s.phase), best.cost, best.number)?;
+    println!(rt;
+        "{}, best{point} {} {}",
+        phase_name(s.phase),
+        best.cost,
+        best.number
+    )?;
     let c = s.counts;
     println!(rt;
         "counts {} {} {} {} {} {} {}",
