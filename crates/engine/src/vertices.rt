@@ -1,4 +1,4 @@
-// The vertices after a decision: the one that enters, the standing and the gathered places. Why `Ready` stands in each contract is said in
+// The vertices after a decision: the one that enters, the standing and the gathered places. Why `Ready` stands in the contracts is said in
 // accept.rt.
 ghost use Rattle.std.specs.Prelude.{◌≡◌, ◌≤◌};
 ghost use Rattle.rules.specs.Numbers.{max_cost};

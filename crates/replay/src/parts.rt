@@ -1,6 +1,6 @@
 // The parts of a search that a script can write, as no call would (docs/REPLAY.md).
 use numerals::float_of;
-use rules::{Axis, Cause, Counts, Phase, Rule, Search, Side};
+use rules::{Cause, Counts, Phase, Rule, Search, Side};
 
 // One of the seven counts.
 #[derive(Clone, Copy)]
@@ -130,17 +130,6 @@ fn put_at(run: &mut [u64; 9], place: usize, value: u64) {
     }
 }
 
-// Writes one limit of an axis.
-fn put_limit(axes: &mut [Axis; 8], axis: usize, low: bool, limit: f64) {
-    if let Some(record) = axes.get_mut(axis) {
-        if low {
-            record.lo = limit;
-        } else {
-            record.hi = limit;
-        }
-    }
-}
-
 // Writes a part of a search.
 pub(super) fn put(search: &mut Search, part: Part) {
     match part {
@@ -153,8 +142,16 @@ pub(super) fn put(search: &mut Search, part: Part) {
         Part::Gathered(place, cost) => put_at(&mut search.gathered.costs, place, cost),
         Part::Best(cost) => search.best.cost = cost,
         Part::Rule(rule) => search.setup.rule = rule,
-        Part::Lo(axis, lo) => put_limit(&mut search.setup.axes, axis, true, lo),
-        Part::Hi(axis, hi) => put_limit(&mut search.setup.axes, axis, false, hi),
+        Part::Lo(axis, lo) => {
+            if let Some(record) = search.setup.axes.get_mut(axis) {
+                record.lo = lo;
+            }
+        }
+        Part::Hi(axis, hi) => {
+            if let Some(record) = search.setup.axes.get_mut(axis) {
+                record.hi = hi;
+            }
+        }
         Part::StandingNumber(place, number) => put_at(&mut search.standing.numbers, place, number),
         Part::GatheredNumber(place, number) => put_at(&mut search.gathered.numbers, place, number),
         Part::BestNumber(number) => search.best.number = number,

@@ -9,7 +9,7 @@ use native.Mathlib.Omega.{arith}
 use lib.ListN.{length, get_or}
 use lib.Ieee.{Float, nan}
 use borrow.Author.Tests.{ne_eqb, eq-eqb, lt-leb, not-true}
-use Rattle.std.proofs.lemmas.Bool.{cases_Bool}
+use Rattle.std.proofs.lemmas.Bool.{cases_Bool, cases_lt}
 use Rattle.rules.specs.Binary64.{◌≤ᶠ◌}
 use Rattle.rules.specs.Numbers.{max_cost}
 use Rattle.rules.specs.Simplex.{cost_of, point_of}
@@ -17,9 +17,10 @@ use Rattle.rules.specs.View.{is_ended}
 use Rattle.rules.specs.Trial.{no_axis, target, trial}
 use Rattle.rules.specs.Refusals.{Verdict, check, answered}
 use Rattle.rules.specs.Opening.{opening, fresh}
-use Rattle.rules.specs.Calls.{undamaged, ask_verdict, tell_verdict, best_verdict, asking, telling, showing, told_by}
+use Rattle.rules.specs.Accept.{gathered_of}
+use Rattle.rules.specs.Calls.{standing_of, undamaged, ask_verdict, tell_verdict, best_verdict, asking, telling, showing, told_by}
 use Rattle.rules.specs.History.{Call, tell, Event, told, after1, after, run, costs_in, joins, history1, history_from, history, reading}
-use Rattle.rules.specs.Claims.{IsRead, Within, StopsOf, Claims}
+use Rattle.rules.specs.Claims.{IsRead, IsBest, Within, StopsOf, Claims}
 use Rattle.rules.specs.declared.Rule.{Rule}
 use Rattle.rules.specs.declared.Axis.{Axis}
 use Rattle.rules.specs.declared.Coefficients.{Coefficients}
@@ -215,18 +216,21 @@ module _ (n : ℕ) (axes : List Axis) (rule : Option Rule) (coefficients : Coeff
       → telling (reached cs) k c ≡ record { verdict = Err CostTooHigh; search = reached cs }
   camera_high cs k c live e high = tell_high (reached cs) (sound_always cs) k c live (e ∙ ap (λ (m : ℕ). m + 1) (sym (claims cs).readings)) high
 
-  -- ---- the panel: best answers a reading that no accepted reading beats
+  -- ---- the panel: best answers the earliest reading that no accepted reading beats, and every vertex names its frame
 
   pub panel_best : (cs : List Call) → 0 < length (accepted_costs cs)
       → (v : Vertex) × (showing (reached cs) ≡ Ok v)
-      × IsRead opened_search (accepted_history cs) v
+      × IsBest opened_search (accepted_history cs) v
       × ((j : ℕ) → j < length (accepted_costs cs) → v.cost ≤ (reading opened_search (accepted_history cs) j).cost)
   panel_best cs l =
       let b = (claims cs).best l in
       let cost : b.0.cost ≡ get_or (accepted_costs cs) (b.0.number - 1) 0 = ap cost_of b.1.read.very in
-      (b.0, b.2, b.1.read, λ j m. rw cost (b.1.least.least j m))
+      (b.0, b.2, b.1, λ j m. rw cost (b.1.least.least j m))
 
-  -- the frame behind a reading: the call that told its cost under its number, where ask would have answered its trial under that number
+  pub panel_none : (cs : List Call) → length (accepted_costs cs) ≡ 0 → showing (reached cs) ≡ Err NoReading
+  panel_none cs e = best_none (reached cs) (sound_always cs) ((claims cs).readings ∙ e)
+
+  -- the frame behind a vertex: the call that told its cost under its number, where ask would have answered its trial under that number
   pub record Frame (cs : List Call) (v : Vertex) : Type 0 where
     pub before : List Call
     pub since : List Call
@@ -234,10 +238,10 @@ module _ (n : ℕ) (axes : List Axis) (rule : Option Rule) (coefficients : Coeff
     pub taken : (telling (reached before) v.number v.cost).verdict ≡ Ok tt
     pub asked : (a : Asked) × (asking (reached before) ≡ Ok a) × (a.number ≡ v.number) × (a.trial.point ≡ v.point)
 
-  -- each vertex that stands, each that is gathered and the best name theirs
-  pub panel_frame : (cs : List Call) (v : Vertex) → IsRead opened_search (accepted_history cs) v → Frame cs v
+  -- a reading names its frame
+  frame : (cs : List Call) (v : Vertex) → IsRead opened_search (accepted_history cs) v → Frame cs v
   unfolding costs_in
-  panel_frame cs v r =
+  frame cs v r =
       let o = opened_search in
       let k = v.number - 1 in
       let t = told_by_call o [] cs k (omega arith) (omega (arith, r.from_1, r.accepted)) in
@@ -257,8 +261,22 @@ module _ (n : ℕ) (axes : List Axis) (rule : Option Rule) (coefficients : Coeff
         asked = (record { number = length (costs_in h) + 1; trial = trial (run o h) }, (claims t.before).asks live, omega arith, point);
       }
 
-  pub panel_none : (cs : List Call) → length (accepted_costs cs) ≡ 0 → showing (reached cs) ≡ Err NoReading
-  panel_none cs e = best_none (reached cs) (sound_always cs) ((claims cs).readings ∙ e)
+  -- what the panel may show: a vertex that stands or is gathered, or what best answers
+  abbrev pub Shown : List Call → Vertex → Type 0
+  Shown cs v = Memᴰ v (standing_of (reached cs)) ⊎ Memᴰ v (gathered_of (reached cs)) ⊎ (showing (reached cs) ≡ Ok v)
+
+  -- what best answers is a reading
+  shown_read : (cs : List Call) (v : Vertex) → showing (reached cs) ≡ Ok v → IsRead opened_search (accepted_history cs) v
+  shown_read cs v e =
+      let some : 0 < length (accepted_costs cs) =
+      ⊎_elim (λ l. l) (λ z. let none = panel_none cs (omega arith) in absurd cc) (cases_lt 0 (length (accepted_costs cs))) in
+      let b = (claims cs).best some in
+      let same : b.0 ≡ v = let answers = b.2 in cc in
+      rw (← same) b.1.read
+
+  -- each names its frame
+  pub panel_frame : (cs : List Call) (v : Vertex) → Shown cs v → Frame cs v
+  panel_frame cs v s = ⊎_elim (λ m. frame cs v ((claims cs).vertices v m)) (⊎_elim (λ m. frame cs v ((claims cs).gathered v m)) (λ e. frame cs v (shown_read cs v e))) s
 
   -- ---- the schedule: the readings equation, from the first reading on
 

@@ -24,7 +24,7 @@ use Rattle.rules.specs.declared.Phase.TheVariants.{Ended}
 use Rattle.rules.specs.declared.Cause.TheVariants.{Settled}
 use Rattle.rules.proofs.Laws.Openings.{opened_verdict, opened_fresh, opened_sane}
 use Rattle.rules.proofs.Laws.Histories.{Joined}
-use Rattle.rules.proofs.Runs.Begun.{Begun, fresh_begun, whole_run, run_inv, run_readings, run_counts, run_probes, run_unfinished, run_standing, run_places, run_vertices, run_gathered}
+use Rattle.rules.proofs.Runs.Begun.{Begun, fresh_begun, whole_run, run_inv, run_readings, run_counts, run_probes, run_unfinished, run_standing, run_places, run_vertices, run_gathered, run_read}
 use Rattle.rules.proofs.Runs.Moments.{run_first, made_since, falls_since, run_settled_only, run_settled_when, run_spent, run_within, run_within_told, run_stops}
 use Rattle.rules.proofs.Runs.Calling.{telling_joins, asking_answers, asked_trial, showing_best, all_follow}
 
@@ -67,6 +67,7 @@ module _ (o : Search) (begun : Begun o) where
         places = run_places o begun h t;
         vertices = run_vertices o begun h t;
         gathered = run_gathered o begun h t;
+        all_read = run_read o begun h t;
         best = showing_best o begun h t;
         first = first_of h t;
         readings = run_readings o begun h t;

@@ -3,7 +3,7 @@
 use Rattle.std.specs.Prelude.{List, [], ◌∷◌, ◌++◌, map, ℕ, ◌-◌, length, take, replicate, Result, Ok, Err}
 use Rattle.std.specs.Float.{binary64, nan}
 use Rattle.std.specs.Float.Ieee.{to_bits}
-use Rattle.rules.specs.Binary64.{1ᶠ}
+use Rattle.rules.specs.Binary64.{1ᶠ, 2ᶠ}
 use Rattle.rules.specs.Simplex.{place, pack}
 use Rattle.rules.specs.Count.{no_counts}
 use Rattle.rules.specs.Accept.{accept}
@@ -48,7 +48,7 @@ with_counts c s = record s { counts = c }
 abbrev pub with_phase : Phase → Search → Search
 with_phase p s = record s { phase = p }
 
--- with other numbers at its first standing places; blank places follow
+-- with other numbers at its first standing places; zeros follow
 abbrev pub with_numbers : List ℕ → Search → Search
 with_numbers ks s = record s { standing = record s.standing { numbers = ks ++ replicate (9 - length ks) 0 } }
 
@@ -133,13 +133,13 @@ causes_stated =
 abbrev pub gathered_then : Search → ℕ → List ℕ
 gathered_then s c = take 2 (accept s c).gathered.costs ++ take 2 (accept s c).gathered.numbers
 
--- the vertex at place i, from 0, of the standing simplex after a reading of cost c: its first two coordinates, its cost and its number
+-- the vertex at place i, from 0, of the standing simplex after a reading of cost c: its coordinates by their bits, its cost and its number
 abbrev pub stands_then : Search → ℕ → ℕ → List ℕ
-stands_then s c i = let v = place (accept s c).standing i in map (to_bits binary64) (take 2 v.point) ++ v.cost ∷ v.number ∷ []
+stands_then s c i = let v = place (accept s c).standing i in map (to_bits binary64) v.point ++ v.cost ∷ v.number ∷ []
 
--- the search of three vertices in the phase p, with another vertex gathered first: at (1, 1, ..), of cost 7 and number 9
+-- the search of three vertices in the phase p, with another vertex gathered first than r, which is (1, 1): at (2, 2, ..), of cost 7 and number 9
 abbrev pub with_r : Phase → Search
-with_r p = record (with_phase p built_search) { gathered = pack (record { point = replicate 8 1ᶠ; cost = 7; number = 9 } ∷ []) }
+with_r p = record (with_phase p built_search) { gathered = pack (record { point = replicate 8 2ᶠ; cost = 7; number = 9 } ∷ []) }
 
 -- the open readings after a reading of cost c
 abbrev pub open_then : Search → ℕ → List ℕ
@@ -168,8 +168,8 @@ strays_given =
     -- costs that are gathered without a build or an iteration go where r is gathered, and where it is taken; they stay at a probe
     gathered_then (with_gathered (7 ∷ 8 ∷ []) built_search) 5 ∷ gathered_then (with_gathered (7 ∷ 8 ∷ []) built_search) 15
     ∷ gathered_then (with_gathered (7 ∷ 8 ∷ []) (with_phase (Probing 0) built_search)) 15
-    -- r is what is gathered: e at the cost 6 is below it, and at 7 it is not; the outside point at 7 is not above it, and at 8 it is, where a shrink
-    -- begins; the inside point does not ask for it
+    -- r is what is gathered: e at the cost 6 is below it, and at 7 it is not, so r is taken as it is; the outside point at 7 is not above it, and
+    -- at 8 it is, where a shrink begins; the inside point does not ask for it. e and the outside point go from the r of the standing places
     ∷ stands_then (with_r Expanding) 6 0 ∷ stands_then (with_r Expanding) 7 0
     ∷ stands_then (with_r (Contracting Outside)) 7 0 ∷ gathered_then (with_r (Contracting Outside)) 8
     ∷ stands_then (with_r (Contracting Inside)) 29 2 ∷ gathered_then (with_r (Contracting Inside)) 30
@@ -188,9 +188,9 @@ strays_given =
 unfoldable pub strays_stated : List (List ℕ)
 strays_stated =
     (5 ∷ 0 ∷ 4 ∷ 0 ∷ []) ∷ (0 ∷ 0 ∷ 0 ∷ 0 ∷ []) ∷ (7 ∷ 8 ∷ 0 ∷ 0 ∷ [])
-    ∷ (0x3ff8_0000_0000_0000 ∷ 0x3ff8_0000_0000_0000 ∷ 6 ∷ 4 ∷ []) ∷ (0x3ff0_0000_0000_0000 ∷ 0x3ff0_0000_0000_0000 ∷ 7 ∷ 9 ∷ [])
-    ∷ (0x3fe8_0000_0000_0000 ∷ 0x3fe8_0000_0000_0000 ∷ 7 ∷ 4 ∷ []) ∷ (10 ∷ 0 ∷ 3 ∷ 0 ∷ [])
-    ∷ (0x3fd0_0000_0000_0000 ∷ 0x3fd0_0000_0000_0000 ∷ 29 ∷ 4 ∷ []) ∷ (10 ∷ 0 ∷ 3 ∷ 0 ∷ [])
+    ∷ (0x3ff8_0000_0000_0000 ∷ 0x3ff8_0000_0000_0000 ∷ replicate 6 0 ++ 6 ∷ 4 ∷ []) ∷ (replicate 8 0x4000_0000_0000_0000 ++ 7 ∷ 9 ∷ [])
+    ∷ (0x3fe8_0000_0000_0000 ∷ 0x3fe8_0000_0000_0000 ∷ replicate 6 0 ++ 7 ∷ 4 ∷ []) ∷ (10 ∷ 0 ∷ 3 ∷ 0 ∷ [])
+    ∷ (0x3fd0_0000_0000_0000 ∷ 0x3fd0_0000_0000_0000 ∷ replicate 6 0 ++ 29 ∷ 4 ∷ []) ∷ (10 ∷ 0 ∷ 3 ∷ 0 ∷ [])
     ∷ (1 ∷ []) ∷ (0 ∷ [])
     ∷ (0 ∷ []) ∷ (1 ∷ [])
     ∷ (6 ∷ 7 ∷ []) ∷ (7 ∷ 7 ∷ [])

@@ -4,7 +4,7 @@ use mathlib.Core.List.{List, [], ◌∷◌, ◌++◌, map, Memᴰ}
 use mathlib.Core.Logic.{◌⊎◌}
 use Rattle.std.specs.Float.{nan}
 use Rattle.rules.specs.Binary64.{◌≤ᶠ◌}
-use Rattle.rules.specs.Simplex.{cost_of, Ordered}
+use Rattle.rules.specs.Simplex.{blank, cost_of, place, Ordered}
 use Rattle.rules.specs.Trial.{axis, target, trial}
 use Rattle.rules.specs.Stop.{total}
 use Rattle.rules.specs.View.{is_ended}
@@ -18,6 +18,7 @@ use Rattle.rules.specs.declared.Piece.TheVariants.{Build, Shrink}
 use Rattle.rules.specs.declared.Phase.TheVariants.{Probing, Ended}
 use Rattle.rules.specs.declared.Cause.TheVariants.{Settled, Budget}
 use Rattle.rules.specs.declared.Vertex.{Vertex}
+use Rattle.rules.specs.declared.Simplex.{Simplex}
 use Rattle.rules.specs.declared.Trial.{Trial}
 use Rattle.rules.specs.declared.Asked.{Asked}
 use Rattle.rules.specs.declared.Setup.{Setup}
@@ -28,6 +29,10 @@ pub record IsRead (o : Search) (h : List Event) (v : Vertex) : Type 0 where
   pub from_1 : 1 ≤ v.number
   pub accepted : v.number ≤ length (costs_in h)
   pub very : v ≡ reading o h (v.number - 1)
+
+-- every one of nine places is blank, with the number 0, or holds such a reading
+abbrev pub AreRead : Search → List Event → Simplex → Type 0
+AreRead o h places = (i : ℕ) → i < 9 → (place places i ≡ blank) ⊎ IsRead o h (place places i)
 
 -- v is "the earliest least reading"
 pub record IsBest (o : Search) (h : List Event) (v : Vertex) : Type 0 where
@@ -81,10 +86,11 @@ pub record Claims (o : Search) (h : List Event) (s : Search) : Type 0 where
   -- order: "Vertices are ordered by cost, lowest first"
   pub sorted : Ordered (standing_of s)
   -- vertices: the simplex is empty before the first build ends, n + 1 vertices afterwards, and each is the accepted reading of its number;
-  -- so is each vertex that an unfinished build or iteration has gathered
+  -- so is each vertex that an unfinished build or iteration has gathered, and whatever else stands in a place
   pub places : length (standing_of s) ≡ cond (eqb (made Build o h) 0) 0 (o.setup.n + 1)
   pub vertices : (v : Vertex) → Memᴰ v (standing_of s) → IsRead o h v
   pub gathered : (v : Vertex) → Memᴰ v (gathered_of s) → IsRead o h v
+  pub all_read : AreRead o h s.standing × AreRead o h s.gathered
   -- best: "the earliest least reading", with its number
   pub best : 0 < length (costs_in h) → (v : Vertex) × IsBest o h v × (showing s ≡ Ok v)
   -- first vertex: at the end of every build and iteration it is the earliest least of the readings till then, with its number

@@ -5,11 +5,10 @@ use Rattle.rules.specs.declared.Phase.TheVariants.{Building, Reflecting, Expandi
 use Rattle.rules.specs.declared.View.{View}
 use Rattle.rules.specs.declared.View.TheVariants.{Builds, Iterates, Probes, Over}
 
--- what each phase is: a build, an iteration, a probe round or the end
+-- what each phase is: a build, an iteration, a probe round or the end; while e or a contraction is asked r is gathered
 abbrev pub view : Phase → View
 view (Building i) = Builds i
 view Reflecting = Iterates 0
--- r is gathered
 view Expanding = Iterates 1
 view (Contracting side) = Iterates 1
 view (Shrinking j) = Iterates j

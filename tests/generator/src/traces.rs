@@ -1,7 +1,6 @@
 //! Numbers of readings, counted in the scripts: those that lines write, r where it is held, and what the calls make of them.
 
 use crate::causes::words;
-use crate::costs::DARK;
 use crate::state::{State, Written};
 use rival::Search;
 
@@ -168,7 +167,6 @@ fn is_sound_unread(search: &Search) -> bool {
 /// How a cost stands to that of r, as an index of `MARGINS`.
 fn margin(cost: u64, fr: u64) -> usize {
     match cost {
-        _ if fr > DARK => 3,
         _ if cost + 1 == fr => 0,
         _ if cost == fr => 1,
         _ if cost == fr + 1 => 2,

@@ -203,7 +203,7 @@ fn high(random: &mut Random) -> u64 {
     random.pick(&[DARK, DARK, DARK, DARK + 1, DARK + 1, DARK + 1, huge, 0])
 }
 
-/// A cost at the first gathered place, where r is held.
+/// A cost at the first gathered place, where r would be held.
 fn cost_of_r(random: &mut Random, state: &State) -> Written {
     let held = state.standing(random.between(1, 9));
     let beside = about(random, held);

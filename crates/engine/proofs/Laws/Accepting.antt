@@ -23,7 +23,8 @@ use Rattle.engine.proofs.Laws.Placing.{cost_low, low_inserted, insert_none}
 
 -- ---- the vertex that enters
 
--- the vertex u that the decision d lets in, the reading k of cost c at the point x being told, has a cost in range, where c is and the gathered ones are
+-- the vertex u that the decision d lets in has a cost in range, where that of the reading is and the gathered ones are. The reading is written out:
+-- `search` does not look for one
 pub entrant_low : (s : Search) (d : Decision) (x : List Float) (c k : ℕ) (u : Vertex) → u ≡ entrant d (record { point = x; cost = c; number = k }) s
     → Ready s → c ≤ max_cost → u.cost ≤ max_cost
 entrant_low s (Take piece Reflected) x c k u f h l = rw f (cost_low s.gathered.costs h.gathered 0)

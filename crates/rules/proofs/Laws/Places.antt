@@ -1,21 +1,22 @@
--- Laws on vertices in places: `pack` and `unpack` undo one another where the sizes fit. Assumes nothing.
+-- Laws on vertices in places: `unpack` finds again what `pack` has put there, and reads the runs of a simplex place by place. Assumes nothing.
 use mathlib.Core.Path.{◌≡◌, refl, ap, ◌∙◌, subst⁻¹}
 use mathlib.Core.Bool.{true}
 use mathlib.Core.List.Memᴰ
 use mathlib.Core.List.{List, [], ◌∷◌, ◌++◌, map, map-append, append_assoc, append-nil, Memᴰ}
-use mathlib.Core.Logic.{⊎_elim}
+use mathlib.Core.Logic.{◌⊎◌, inl, inr, ⊎_elim}
 use Prim.Native.Nat.{ℕ, zero, suc, ◌+◌, ◌-◌, ◌*◌, ◌≤◌, ◌<◌}
 use native.Mathlib.Omega.{arith}
 use lib.ListN.{length, get_or, take, drop, replicate, get_or-map}
-use lib.Seq.{drop-nil, take_all, take-suc, take-add, take_at, take-length, take-append-le, drop-append-add, drop-cons}
+use lib.Seq.{drop-nil, take-suc, take-add, take_at, take-length, take-append-le, drop-append-add, drop-cons}
 use Rattle.std.proofs.lemmas.Bool.Decides.{nat_tests}
+use Rattle.std.proofs.lemmas.Bool.{cases_lt}
 use Rattle.std.proofs.lemmas.List.{places}
 use Rattle.rules.specs.declared.Simplex.{Simplex}
 use Rattle.rules.specs.declared.Vertex.{Vertex}
 use Rattle.rules.specs.Numbers.{max_cost}
 use Rattle.rules.specs.Simplex.{up_to, blank, cost_of, number_in, flat, store, pack, place, unpack}
 use Rattle.rules.specs.Calls.{all_costs}
-use Rattle.rules.proofs.Laws.Lists.{length_up_to, mem_get_or}
+use Rattle.rules.proofs.Laws.Lists.{mem_get_or}
 
 -- each point has eight numbers
 abbrev pub Whole : List Vertex → Type 0
@@ -81,11 +82,19 @@ unpack_take m vs h l =
 pub unpack_pack : (vs : List Vertex) → Whole vs → unpack (length vs) (pack vs) ≡ vs
 unpack_pack vs h = unpack_take (length vs) vs h (omega arith) ∙ take-length vs
 
--- place i of packed vertices holds vertex i
+-- place i of packed vertices, one of nine or more, holds vertex i, and is blank past the last vertex
+place_padded : (vs : List Vertex) (i : ℕ) → Whole vs → i < length (vs ++ replicate (9 - length vs) blank) → place (pack vs) i ≡ get_or vs i blank
+place_padded vs i h l = place_store (vs ++ replicate (9 - length vs) blank) i (whole_padded vs (9 - length vs) h) l ∙ get_or_padded vs (9 - length vs) i
+
+-- so the place of a vertex holds it
 pub place_pack : (vs : List Vertex) (i : ℕ) → Whole vs → i < length vs → place (pack vs) i ≡ get_or vs i blank
-place_pack vs i h l =
-    let k = 9 - length vs in
-    place_store (vs ++ replicate k blank) i (whole_padded vs k h) (grind (arith, places)) ∙ get_or_padded vs k i
+place_pack vs i h l = place_padded vs i h (grind (arith, places))
+
+-- and each of the nine places is one of the vertices or blank
+pub place_cases : (vs : List Vertex) (i : ℕ) → Whole vs → i < 9 → (place (pack vs) i ≡ blank) ⊎ Memᴰ (place (pack vs) i) vs
+place_cases vs i h l =
+    let e = place_padded vs i h (grind (arith, places)) in
+    rw e (⊎_elim (λ m. inr (mem_get_or vs i blank m)) (λ m. inl (grind (arith, places))) (cases_lt i (length vs)))
 
 -- a measure of the vertices at the places, the i-th, is that of vertex i, and a blank one's past the last vertex
 measure_pack : (f : Vertex → ℕ) (vs : List Vertex) (i : ℕ) → get_or (map f (vs ++ replicate (9 - length vs) blank)) i (f blank) ≡ f (get_or vs i blank)
@@ -93,17 +102,17 @@ measure_pack f vs i =
     let k = 9 - length vs in
     get_or-map f (vs ++ replicate k blank) i blank ∙ ap f (get_or_padded vs k i)
 
--- so are their costs
+-- their costs are those of the vertices
 pub cost_pack : (vs : List Vertex) (i : ℕ) → get_or (pack vs).costs i 0 ≡ (get_or vs i blank).cost
 unfolding store
 cost_pack vs i = measure_pack cost_of vs i
 
--- and their numbers
+-- and so are their numbers
 pub number_pack : (vs : List Vertex) (i : ℕ) → get_or (pack vs).numbers i 0 ≡ (get_or vs i blank).number
 unfolding store
 number_pack vs i = measure_pack number_in vs i
 
--- ---- pack after unpack
+-- ---- the runs of unpacked places
 
 -- the points of two lists, one after the other
 pub flat_append : (vs ws : List Vertex) → flat (vs ++ ws) ≡ flat vs ++ flat ws
@@ -132,15 +141,6 @@ costs_unpack m s l = measure_unpack cost_of s.costs s (λ i. refl) m l
 -- their numbers are the first m numbers
 pub numbers_unpack : (m : ℕ) (s : Simplex) → m ≤ length s.numbers → map number_in (unpack m s) ≡ take m s.numbers
 numbers_unpack m s l = measure_unpack number_in s.numbers s (λ i. refl) m l
-
--- a simplex of nine places is that of its vertices
-pub pack_unpack : (s : Simplex) → length s.points ≡ 72 → length s.costs ≡ 9 → length s.numbers ≡ 9 → pack (unpack 9 s) ≡ s
-unfolding store unpack
-pack_unpack s p c n =
-    let points : flat (unpack 9 s) ≡ s.points = flat_unpack 9 s ∙ take_all 72 s.points (omega arith) in
-    let costs : map cost_of (unpack 9 s) ≡ s.costs = costs_unpack 9 s (omega arith) ∙ take_all 9 s.costs (omega arith) in
-    let numbers : map number_in (unpack 9 s) ≡ s.numbers = numbers_unpack 9 s (omega arith) ∙ take_all 9 s.numbers (omega arith) in
-    rw (length_up_to (place s) 9, append-nil, points, costs, numbers)
 
 -- ---- the costs in range
 

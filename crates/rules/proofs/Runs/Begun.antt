@@ -3,6 +3,7 @@ use Rattle.std.specs.Prelude.{Option}
 use mathlib.Core.Path.{◌≡◌, refl, sym, ap, ◌∙◌, subst}
 use mathlib.Core.Bool.{cond}
 use mathlib.Core.List.{List, [], Memᴰ}
+use mathlib.Core.Logic.{inl, inr, ⊎_elim}
 use Prim.Native.Nat.{ℕ, ◌+◌, ◌-◌, ◌<◌}
 use native.Mathlib.Omega.{arith}
 use lib.ListN.{length, length-map}
@@ -10,7 +11,7 @@ use lib.Dec.{eqb}
 use Rattle.std.proofs.lemmas.Bool.Decides.{nat_tests}
 use Rattle.std.proofs.lemmas.Bool.{cond_both}
 use Rattle.rules.specs.Binary64.{0ᶠ}
-use Rattle.rules.specs.Simplex.{cost_of, number_in, first_of}
+use Rattle.rules.specs.Simplex.{cost_of, number_in, pack, place, first_of}
 use Rattle.rules.specs.View.{gathered_in}
 use Rattle.rules.specs.Count.{count_in, no_counts}
 use Rattle.rules.specs.Opening.{fresh}
@@ -18,23 +19,25 @@ use Rattle.rules.specs.Accept.{gathered_of}
 use Rattle.rules.specs.Calls.{standing_of}
 use Rattle.rules.specs.History.{Event, run, costs_in, reading, EarliestLeast}
 use Rattle.rules.specs.Tally.{made, probes_in, open_in}
-use Rattle.rules.specs.Claims.{IsRead, IsBest}
+use Rattle.rules.specs.Claims.{IsRead, AreRead, IsBest}
 use Rattle.rules.specs.declared.Rule.{Rule}
 use Rattle.rules.specs.declared.Axis.{Axis}
 use Rattle.rules.specs.declared.Coefficients.{Coefficients}
 use Rattle.rules.specs.declared.Vertex.{Vertex}
+use Rattle.rules.specs.declared.Simplex.{Simplex}
 use Rattle.rules.specs.declared.Setup.{Setup}
 use Rattle.rules.specs.declared.Search.{Search}
 use Rattle.rules.specs.declared.Piece.{Piece}
 use Rattle.rules.specs.declared.Piece.TheVariants.{Build}
 use Rattle.rules.specs.declared.Phase.TheVariants.{Building}
 use Rattle.rules.proofs.Laws.Lists.{mem_take}
+use Rattle.rules.proofs.Laws.Places.{place_cases}
 use Rattle.rules.proofs.Laws.Openings.{Sane}
 use Rattle.rules.proofs.Laws.Histories.{readings_of, Joined, costs_readings_of, get_or_readings_of, mem_readings_of}
-use Rattle.rules.proofs.Steps.Invariant.{Best, Inv}
+use Rattle.rules.proofs.Steps.Invariant.{Known, Best, Inv}
 use Rattle.rules.proofs.Steps.Noting.{best_mem}
 use Rattle.rules.proofs.Steps.Counting.{count_by}
-use Rattle.rules.proofs.Steps.Stepping.{BelowBudget, standing_list, gathered_list}
+use Rattle.rules.proofs.Steps.Stepping.{BelowBudget, whole, standing_list, gathered_list}
 use Rattle.rules.proofs.Runs.Running.{Ran, ran, fresh_inv, fresh_below}
 
 -- a search as an opening gives it: nothing told, nothing counted
@@ -109,6 +112,18 @@ module _ (o : Search) (begun : Begun o) where
     run_gathered v m =
         let among = mem_take (gathered_in (run o h).phase) run_inv.gs (rw (gathered_list (readings_of o h) (run o h) run_inv) at m) in
         is_read v (run_inv.gathers.known v among)
+
+    -- packed vertices that are readings are so place by place
+    are_read : (vs : List Vertex) (places : Simplex) → places ≡ pack vs → Known vs (readings_of o h) → AreRead o h places
+    are_read vs places e known i l =
+        rw e (⊎_elim inl (λ m. inr (is_read (place (pack vs) i) (known (place (pack vs) i) m))) (place_cases vs i (whole run_inv.noted known) l))
+
+    -- every place of both runs
+    pub run_read : AreRead o h (run o h).standing × AreRead o h (run o h).gathered
+    run_read = (
+      are_read run_inv.vs (run o h).standing run_inv.stands.are run_inv.stands.known,
+      are_read run_inv.gs (run o h).gathered run_inv.gathers.are run_inv.gathers.known,
+    )
 
     -- ---- the best
 

@@ -76,7 +76,7 @@ module _ (o : Search) where
         events = rw e t.events;
       }
 
-  -- a tell that joins makes the costs one more
+  -- one cost told more makes the costs one more
   pub one_more : (h : List Event) (c : ℕ) → length (costs_in (h ++ told c ∷ [])) ≡ length (costs_in h) + 1
   unfolding costs_in
   one_more h c = rw (costs_in_append h (told c ∷ []), length-append (costs_in h) (c ∷ [])) refl
