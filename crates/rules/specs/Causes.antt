@@ -137,7 +137,7 @@ gathered_then s c = take 2 (accept s c).gathered.costs ++ take 2 (accept s c).ga
 abbrev pub stands_then : Search → ℕ → ℕ → List ℕ
 stands_then s c i = let v = place (accept s c).standing i in map (to_bits binary64) v.point ++ v.cost ∷ v.number ∷ []
 
--- the search of three vertices in the phase p, with another vertex gathered first than r, which is (1, 1): at (2, 2, ..), of cost 7 and number 9
+-- the search of three vertices in the phase p, where not r, which is (1, 1), is gathered, but a vertex at (2, 2, ..) of cost 7 and number 9
 abbrev pub with_r : Phase → Search
 with_r p = record (with_phase p built_search) { gathered = pack (record { point = replicate 8 2ᶠ; cost = 7; number = 9 } ∷ []) }
 

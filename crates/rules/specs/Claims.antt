@@ -24,7 +24,7 @@ use Rattle.rules.specs.declared.Asked.{Asked}
 use Rattle.rules.specs.declared.Setup.{Setup}
 use Rattle.rules.specs.declared.Search.{Search}
 
--- v is the accepted reading that its number says: "hold the number of the reading that gave their cost", and this "of that very reading"
+-- v is the accepted reading of its number: "A vertex and the best each hold the number of the reading that gave their cost"
 pub record IsRead (o : Search) (h : List Event) (v : Vertex) : Type 0 where
   pub from_1 : 1 ≤ v.number
   pub accepted : v.number ≤ length (costs_in h)

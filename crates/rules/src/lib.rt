@@ -153,7 +153,7 @@ pub struct Trial {
     pub stops: u64,
 }
 
-// A reading: a point with its cost, and the number, from 1, of the reading that gave it; 0 is no reading. Coordinates past the axis count are 0.
+// A point with its cost and the number, from 1, of the reading that gave it: 0 where none did. Coordinates past the axis count are 0.
 #[derive(Clone, Copy, Default)]
 pub struct Vertex {
     pub point: [f64; 8],

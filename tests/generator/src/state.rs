@@ -6,6 +6,10 @@ use rival::Search;
 /// The part, which of it, and the value of a line that writes one.
 pub type Written = [u64; 3];
 
+/// Where a place 0 of the standing simplex would begin, and one of the gathered simplex.
+const STANDING: usize = 58;
+const GATHERED: usize = 148;
+
 pub struct State(Vec<u64>);
 
 impl State {
@@ -58,31 +62,35 @@ impl State {
 
     /// The cost at a place of the standing simplex, from 1.
     pub fn standing(&self, place: u64) -> u64 {
-        self.0[66 + 10 * place as usize]
+        self.vertex(STANDING, place)[8]
     }
 
     /// The number of the reading that gave it.
     pub fn standing_number(&self, place: u64) -> u64 {
-        self.0[67 + 10 * place as usize]
+        self.vertex(STANDING, place)[9]
     }
 
     /// The coordinates' bits there.
     pub fn standing_point(&self, place: u64) -> &[u64] {
-        let cost = 66 + 10 * place as usize;
-        &self.0[cost - 8..cost]
+        &self.vertex(STANDING, place)[..8]
     }
 
     pub fn gathered(&self, place: u64) -> u64 {
-        self.0[156 + 10 * place as usize]
+        self.vertex(GATHERED, place)[8]
     }
 
     pub fn gathered_number(&self, place: u64) -> u64 {
-        self.0[157 + 10 * place as usize]
+        self.vertex(GATHERED, place)[9]
     }
 
     pub fn gathered_point(&self, place: u64) -> &[u64] {
-        let cost = 156 + 10 * place as usize;
-        &self.0[cost - 8..cost]
+        &self.vertex(GATHERED, place)[..8]
+    }
+
+    /// The words of a place, from 1: eight coordinates' bits, the cost and the number.
+    fn vertex(&self, run: usize, place: u64) -> &[u64] {
+        let start = run + 10 * place as usize;
+        &self.0[start..start + 10]
     }
 
     /// Whether e or a contraction is asked, and so r held at the first gathered place.

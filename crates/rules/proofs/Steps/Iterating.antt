@@ -16,6 +16,7 @@ use Rattle.rules.specs.Decide.{f1, fn, fr, row1, row2, row3, wins_expanded, wins
 use Rattle.rules.specs.Accept.{newcomer, joined, best_after}
 use Rattle.rules.specs.Tally.{count_of}
 use Rattle.rules.specs.declared.Vertex.{Vertex}
+use Rattle.rules.specs.declared.Simplex.{Simplex}
 use Rattle.rules.specs.declared.Search.{Search}
 use Rattle.rules.specs.declared.Side.{Side}
 use Rattle.rules.specs.declared.Side.TheVariants.{Outside, Inside}
@@ -27,7 +28,7 @@ use Rattle.rules.specs.declared.Newcomer.TheVariants.{Latest, Reflected}
 use Rattle.rules.specs.declared.Keeping.TheVariants.{Joined, First}
 use Rattle.rules.specs.declared.Decision.TheVariants.{Go, Take}
 use Rattle.rules.proofs.Laws.Order.{first_lower, ordered_at}
-use Rattle.rules.proofs.Laws.Places.{place_pack, cost_pack}
+use Rattle.rules.proofs.Laws.Places.{Whole, place_pack, cost_pack}
 use Rattle.rules.proofs.Steps.Invariant.{Leads, Gathers, Idle, RowBound, AtExpand, AtContract, At, Inv}
 use Rattle.rules.proofs.Steps.Noting.{◌▹◌, NotedWith, best_mem, known_more, known_new, known_one, best_falls, best_stays, leads_on}
 use Rattle.rules.proofs.Steps.Stepping.{NoRound, Goes, whole}
@@ -40,6 +41,11 @@ leads_at : (vs : List Vertex) (b : Vertex) → Leads vs b → get_or vs 0 blank 
 leads_at [] b h = cc
 leads_at (v ∷ vs) b h = cc
 
+-- and the first of the places that hold the vertices holds it
+place_leads : (vs : List Vertex) (b : Vertex) (places : Simplex) → places ≡ pack vs → Whole vs → Leads vs b → place places 0 ≡ b
+place_leads [] b places e w h = absurd cc
+place_leads (v ∷ vs) b places e w h = rw e (place_pack (v ∷ vs) 0 w (omega arith) ∙ leads_at (v ∷ vs) b h)
+
 -- of some vertices the one at place 1 leads
 leads_self : (vs : List Vertex) → 1 ≤ length vs → Leads vs (get_or vs 0 blank)
 leads_self [] l = absurd (not-suc-le-zero l)
@@ -50,9 +56,13 @@ module _ (rs : List Vertex) (v : Vertex) (s : Search) (inv : Inv rs s) (after : 
   carries : (i : ℕ) → get_or s.standing.costs i 0 ≡ (get_or inv.vs i blank).cost
   carries i = rw inv.stands.are (cost_pack inv.vs i)
 
-  -- so is fr, of the first that is gathered
-  carries_r : fr s ≡ (get_or inv.gs 0 blank).cost
-  carries_r = rw inv.gathers.are (cost_pack inv.gs 0)
+  -- the best, where it leads, stands at place 1
+  stands_first : Leads inv.vs s.best → place s.standing 0 ≡ s.best
+  stands_first h = place_leads inv.vs s.best s.standing inv.stands.are (whole inv.noted inv.stands.known) h
+
+  -- r, where it is gathered alone, is at place 1 there
+  held_first : (r : Vertex) → inv.gs ≡ r ∷ [] → place s.gathered 0 ≡ r
+  held_first r e = place_leads inv.gs r s.gathered inv.gathers.are (whole inv.noted inv.gathers.known) (rw e)
 
   -- the gathered vertices stay as they are
   pub gathers_more : Gathers (rs ▹ v) inv.gs s.gathered
@@ -71,7 +81,7 @@ module _ (rs : List Vertex) (v : Vertex) (s : Search) (inv : Inv rs s) (after : 
   module _ (now : s.phase ≡ Reflecting) (idle : Idle 0 s.readings s.counts) (leads : Leads inv.vs s.best) where
     -- f1 is the best cost
     first_cost : f1 s ≡ s.best.cost
-    first_cost = carries 0 ∙ ap cost_of (leads_at inv.vs s.best leads)
+    first_cost = ap cost_of (stands_first leads)
 
     -- one reading is open now
     idle_on : Idle 1 (s.readings + 1) (told_in s.phase s.counts)
@@ -140,9 +150,7 @@ module _ (rs : List Vertex) (v : Vertex) (s : Search) (inv : Inv rs s) (after : 
 
     -- r, as it was gathered, is the best
     reflected : place s.gathered 0 ≡ s.best
-    reflected =
-        let one : 0 < length inv.gs = rw h.holds (omega arith) in
-        rw inv.gathers.are (place_pack inv.gs 0 (whole inv.noted inv.gathers.known) one ∙ ap (λ (gs : List Vertex). get_or gs 0 blank) h.holds)
+    reflected = held_first s.best h.holds
 
     -- either point is taken
     pub expand_step : Goes rs v s (decided Expanding s v.cost)
@@ -170,9 +178,7 @@ module _ (rs : List Vertex) (v : Vertex) (s : Search) (inv : Inv rs s) (after : 
 
     -- x1, which a shrink keeps, is the best
     kept_best : place s.standing 0 ≡ s.best
-    kept_best =
-        let n : length inv.vs ≡ s.setup.n + 1 = inv.stands.all idle.stood in
-        rw inv.stands.are (place_pack inv.vs 0 (whole inv.noted inv.stands.known) (omega arith) ∙ leads_at inv.vs s.best h.leads)
+    kept_best = stands_first h.leads
 
     -- a shrink begins
     goes_shrinking : s.best.cost ≤ v.cost → Goes rs v s (Go First (Shrinking 1))
@@ -188,7 +194,7 @@ module _ (rs : List Vertex) (v : Vertex) (s : Search) (inv : Inv rs s) (after : 
       → Goes rs v s (decided (Contracting side) s v.cost)
   unfolding decided
   contract_step Outside now idle h =
-      let r : fr s ≡ h.r.cost = carries_r ∙ ap (λ (gs : List Vertex). (get_or gs 0 blank).cost) h.holds in
+      let r : fr s ≡ h.r.cost = ap cost_of (held_first h.r h.holds) in
       cond_both (wins Outside v.cost s) _ _ (Goes rs v s)
       (λ e. takes_contracted Outside now idle h (grind (arith, nat_tests, h.row)))
       (λ e. goes_shrinking Outside now idle h (grind (arith, nat_tests, h.higher)))

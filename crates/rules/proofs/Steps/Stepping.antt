@@ -83,7 +83,7 @@ module _ {rs vs : List Vertex} {t : Setup} where
   pub places_are : {k : ℕ} {b : Vertex} {places : Simplex} (i : ℕ) → Noted rs t k b → Known vs rs → places ≡ pack vs → length vs ≡ i → unpack i places ≡ vs
   places_are i h g e l = rw (e, ← l) (unpack_pack vs (whole h g))
 
-  -- place 1 has a number exactly where there is a first vertex
+  -- the first of vertices that were read, if there is one, has a number
   first_numbered : {k : ℕ} {b : Vertex} → Noted rs t k b → Known vs rs → 1 ≤ length vs → 1 ≤ (get_or vs 0 blank).number
   first_numbered h g l = (h.shapes _ (g _ (mem_get_or vs 0 blank l))).numbered
 
@@ -113,7 +113,7 @@ gathered_enough (Contracting side) t vs gs k c b h = rw h.1.holds (omega arith)
 gathered_enough (Shrinking j) t vs gs k c b h = omega (arith, h.many)
 gathered_enough p t vs gs k c b h = omega arith
 
--- and those that it says are among the gathered ones that the invariant names
+-- so those that it counts are the first of the gathered ones that the invariant names
 pub gathered_list : (rs : List Vertex) (s : Search) (inv : Inv rs s) → gathered_of s ≡ take (gathered_in s.phase) inv.gs
 gathered_list rs s inv =
     let enough = gathered_enough s.phase s.setup inv.vs inv.gs s.readings s.counts s.best inv.phase in
