@@ -1,12 +1,12 @@
 //! The first build and the build of a restart.
 
 use crate::search::{Phase, Search};
-use crate::types::{Clamped, Vertex};
+use crate::types::{Brought, Vertex};
 
 impl Search {
     /// The trial of a build that has so many vertices: its center, then that point with axis i changed.
-    pub(crate) fn build_trial(&self, vertices: usize) -> Clamped {
-        self.clamped(|i| {
+    pub(crate) fn build_trial(&self, vertices: usize) -> Brought {
+        self.brought(|i| {
             if i + 1 == vertices {
                 self.stepped(i)
             } else {
@@ -15,11 +15,12 @@ impl Search {
         })
     }
 
-    /// u = start + step if u ≤ hi, else start − step, around the center. The turn is no stop; the clamp that follows may be one.
+    /// u = start + step if u ≤ hi, else start − step, around the center. That change is no stop; the clamp that follows may be one.
+    /// On a ring "the build always takes start + step there".
     fn stepped(&self, i: usize) -> f64 {
         let axis = &self.axes[i];
         let u = self.center[i] + axis.step;
-        if u <= axis.hi {
+        if axis.ring || u <= axis.hi {
             u
         } else {
             self.center[i] - axis.step

@@ -1,7 +1,7 @@
-//! The points that the rules ask, every one clamped axis by axis.
+//! The points that the rules ask, every one brought into the axes: clamped, or brought round on a ring.
 
 use crate::search::{Phase, Search, Side};
-use crate::types::{Clamped, Point, MAX_AXES, ORIGIN};
+use crate::types::{Brought, Point, MAX_AXES, ORIGIN};
 
 impl Search {
     /// Works out the point that the rules ask next.
@@ -13,7 +13,7 @@ impl Search {
     }
 
     /// The point that the phase asks; an ended search asks none.
-    fn next_trial(&self) -> Clamped {
+    fn next_trial(&self) -> Brought {
         let k = &self.coefficients;
         match self.phase {
             Phase::Building => self.build_trial(self.vertices),
@@ -25,7 +25,7 @@ impl Search {
             Phase::Contracting(Side::Inside) => self.off_centroid(k.beta, self.worst()),
             Phase::Shrinking => self.shrunk_trial(self.vertices),
             Phase::Probing(told) => self.probe_trial(told),
-            Phase::Ended(_) => Clamped::ORIGIN,
+            Phase::Ended(_) => Brought::ORIGIN,
         }
     }
 
@@ -34,36 +34,36 @@ impl Search {
         self.standing.point(self.n)
     }
 
-    /// A point's coordinates clamped, axis by axis, and its stops counted; zeros past its n coordinates.
-    pub(crate) fn clamped(&self, coordinate: impl Fn(usize) -> f64) -> Clamped {
-        let mut clamped = Clamped::ORIGIN;
+    /// A point's coordinates brought into their axes, and its stops counted; zeros past its n coordinates.
+    pub(crate) fn brought(&self, coordinate: impl Fn(usize) -> f64) -> Brought {
+        let mut brought = Brought::ORIGIN;
         for (i, axis) in self.axes[..self.n].iter().enumerate() {
-            let (x, stop) = axis.clamp(coordinate(i));
-            clamped.point[i] = x;
-            clamped.stops += stop;
+            let (x, stop) = axis.bring(coordinate(i));
+            brought.point[i] = x;
+            brought.stops += stop;
         }
-        clamped
+        brought
     }
 
     /// r = c + α·(c − w), from the centroid that is carried.
-    pub(crate) fn reflection(&self) -> Clamped {
+    pub(crate) fn reflection(&self) -> Brought {
         let c = &self.centroid;
         self.along(c, self.coefficients.alpha, c, self.worst())
     }
 
-    /// c + factor·(tip − c), clamped.
-    fn off_centroid(&self, factor: f64, tip: &[f64]) -> Clamped {
+    /// c + factor·(tip − c), brought into the axes.
+    fn off_centroid(&self, factor: f64, tip: &[f64]) -> Brought {
         self.along(&self.centroid, factor, tip, &self.centroid)
     }
 
-    /// base + factor·(tip − tail), clamped.
-    fn along(&self, base: &[f64], factor: f64, tip: &[f64], tail: &[f64]) -> Clamped {
+    /// base + factor·(tip − tail), brought into the axes.
+    fn along(&self, base: &[f64], factor: f64, tip: &[f64], tail: &[f64]) -> Brought {
         let [base, tip, tail] = [base, tip, tail].map(|point| &point[..MAX_AXES]);
-        self.clamped(|i| base[i] + factor * (tip[i] - tail[i]))
+        self.brought(|i| base[i] + factor * (tip[i] - tail[i]))
     }
 
-    /// x1 + σ·(xi − x1), clamped, for the vertex at an index.
-    pub(crate) fn shrunk_trial(&self, index: usize) -> Clamped {
+    /// x1 + σ·(xi − x1), brought into the axes, for the vertex at an index.
+    pub(crate) fn shrunk_trial(&self, index: usize) -> Brought {
         let x1 = self.standing.point(0);
         self.along(x1, self.coefficients.sigma, self.standing.point(index), x1)
     }

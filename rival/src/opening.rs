@@ -1,4 +1,4 @@
-//! Opening a search, and the refusals 1 to 7.
+//! Opening a search, and the refusals 1 to 7 and 13.
 
 use crate::search::{Phase, Search};
 use crate::types::{Axis, Coefficients, Refusal, Rule, MAX_AXES, MAX_BUDGET, MAX_SPREAD};
@@ -61,7 +61,7 @@ fn check(holds: bool, number: u64) -> Result<(), Refusal> {
     }
 }
 
-/// Tries 2, 3, 4 on each axis, lowest first.
+/// Tries 2, 3, 13, 4 on each axis, lowest first.
 fn check_axes(axes: &[Axis]) -> Result<(), Refusal> {
     for (axis, number) in (1..).zip(axes.iter().map(axis_refusal)) {
         if number != 0 {
@@ -77,6 +77,8 @@ fn axis_refusal(axis: &Axis) -> u64 {
         2
     } else if !record_in_order(axis) {
         3
+    } else if starts_at_seam(axis) {
+        13
     } else if axis.start + axis.step == axis.start || axis.step > (axis.hi - axis.lo) / 2.0 {
         4
     } else {
@@ -94,6 +96,11 @@ fn numbers_in_range(axis: &Axis) -> bool {
 /// Whether lo < hi, lo ≤ start ≤ hi and step > 0.
 fn record_in_order(axis: &Axis) -> bool {
     axis.lo < axis.hi && axis.lo <= axis.start && axis.start <= axis.hi && axis.step > 0.0
+}
+
+/// "An opening whose ring axis starts at hi is refused as 13 with its axis, tried just after 3 on the same axis."
+fn starts_at_seam(axis: &Axis) -> bool {
+    axis.ring && axis.start == axis.hi
 }
 
 /// Whether every coefficient is in its range; NaN fails.

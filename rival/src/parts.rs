@@ -9,7 +9,7 @@ use crate::types::{shown_bits, Rule, Vertex};
 const _: () = assert!(usize::BITS == 64);
 
 /// The words of a state line.
-const WORDS: usize = 248;
+const WORDS: usize = 256;
 
 /// A part that can be written. Counts, places and axes go by their index.
 #[derive(Clone, Copy)]
@@ -42,6 +42,8 @@ pub(crate) enum Part {
     GatheredNumber(usize),
     /// The best reading's number.
     BestNumber,
+    /// Whether an axis is a ring.
+    Ring(usize),
 }
 
 impl Part {
@@ -63,15 +65,21 @@ impl Part {
             (11, 1..=9) => Some(Part::StandingNumber(index)),
             (12, 1..=9) => Some(Part::GatheredNumber(index)),
             (13, 0) => Some(Part::BestNumber),
+            (14, 1..=8) => Some(Part::Ring(index)),
             _ => None,
         }
+    }
+
+    /// The part that a line writes: none if it is not in the table, or if it is a ring and the value is above 1.
+    pub(crate) fn written(part: u64, which: u64, value: u64) -> Option<Part> {
+        Part::numbered(part, which).filter(|part| !matches!(part, Part::Ring(_)) || value <= 1)
     }
 }
 
 impl Search {
-    /// Writes a part by the two words that name it, and says whether there is one.
+    /// Writes a part by the two words that name it, and says whether there is one that can have the value.
     pub fn write_part(&mut self, part: u64, which: u64, value: u64) -> bool {
-        let named = Part::numbered(part, which);
+        let named = Part::written(part, which, value);
         if let Some(part) = named {
             self.write(part, value);
         }
@@ -95,6 +103,7 @@ impl Search {
             Part::StandingNumber(index) => self.standing.put_number(index, value),
             Part::GatheredNumber(index) => self.gathered.put_number(index, value),
             Part::BestNumber => self.best.number = value,
+            Part::Ring(index) => self.axes[index].ring = value == 1,
         }
         self.restore();
     }
@@ -166,6 +175,7 @@ impl Search {
         words.push(self.budget);
         for axis in &self.axes {
             extend_point(words, &[axis.lo, axis.hi, axis.start, axis.step]);
+            words.push(u64::from(axis.ring));
         }
     }
 

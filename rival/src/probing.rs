@@ -1,15 +1,15 @@
 //! The probe round and its two ends: restart and settled.
 
 use crate::search::{Cause, Phase, Search};
-use crate::types::{Clamped, Vertex};
+use crate::types::{Brought, Vertex};
 
 /// The part of a step that a probe goes.
 const PROBE_FACTOR: f64 = 0.0009765625;
 
 impl Search {
-    /// The probe after so many are told: for each axis the clamp of b + d, then of b − d.
-    pub(crate) fn probe_trial(&self, told: usize) -> Clamped {
-        self.clamped(|i| {
+    /// The probe after so many are told: for each axis b + d, then b − d, brought into the axis.
+    pub(crate) fn probe_trial(&self, told: usize) -> Brought {
+        self.brought(|i| {
             let b = self.best.point[i];
             let d = self.axes[i].step * PROBE_FACTOR;
             match told {

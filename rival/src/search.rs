@@ -1,7 +1,7 @@
 //! The search: what its opening gave and what the readings made of it.
 
 use crate::simplex::Simplex;
-use crate::types::{Axis, Clamped, Coefficients, Point, Rule, Vertex, MAX_AXES, ORIGIN};
+use crate::types::{Axis, Brought, Coefficients, Point, Rule, Vertex, MAX_AXES, ORIGIN};
 
 /// The side of a contraction.
 #[derive(Clone, Copy, Debug, PartialEq, Eq)]
@@ -121,7 +121,7 @@ pub struct Search {
     /// The squared differences of the vertices replaced so far by the iteration.
     pub(crate) moved: f64,
     /// The point that the rules ask next, with its stops.
-    pub(crate) trial: Clamped,
+    pub(crate) trial: Brought,
 }
 
 impl Search {
@@ -148,7 +148,7 @@ impl Search {
             center: ORIGIN,
             centroid: ORIGIN,
             moved: 0.0,
-            trial: Clamped::ORIGIN,
+            trial: Brought::ORIGIN,
         }
     }
 }

@@ -83,7 +83,7 @@ fn read_axes(lines: &mut Lines, n: u64) -> Result<Option<[Axis; MAX_AXES]>, Stop
     Ok(Some(axes))
 }
 
-/// Reads lo, hi, start, step.
+/// Reads lo, hi, start, step. "The program's axes are not rings."
 fn read_axis(line: &[u8]) -> Option<Axis> {
     let [lo, hi, start, step] = fields(line, word)?.map(f64::from_bits);
     Some(Axis {
@@ -91,6 +91,7 @@ fn read_axis(line: &[u8]) -> Option<Axis> {
         hi,
         start,
         step,
+        ring: false,
     })
 }
 

@@ -23,17 +23,49 @@ pub(crate) const ORIGIN: Point = [0.0; MAX_AXES];
 pub struct Axis {
     /// The lower limit.
     pub lo: f64,
-    /// The upper limit, a permitted position.
+    /// The upper limit, a permitted position; on a ring the same position as lo.
     pub hi: f64,
     /// The start point's coordinate.
     pub start: f64,
     /// The step of a build.
     pub step: f64,
+    /// "An axis record says whether it is a ring."
+    pub ring: bool,
 }
 
 impl Axis {
+    /// Bring v into the axis: clamped, or brought round on a ring. With it 1 where that is a stop, else 0.
+    pub(crate) fn bring(&self, v: f64) -> (f64, u64) {
+        if self.ring {
+            // "Being brought round never counts as standing at a stop."
+            (self.brought_round(v), 0)
+        } else {
+            self.clamp(v)
+        }
+    }
+
+    /// "If the outcome is still not lo ≤ v < hi it becomes lo."
+    fn brought_round(&self, v: f64) -> f64 {
+        let outcome = self.turned(v);
+        if self.lo <= outcome && outcome < self.hi {
+            outcome
+        } else {
+            self.lo
+        }
+    }
+
+    /// "A value with lo ≤ v false becomes v + (hi − lo), any other with v < hi false becomes v − (hi − lo)." One turn at most.
+    fn turned(&self, v: f64) -> f64 {
+        let turn = self.hi - self.lo;
+        match (self.lo <= v, v < self.hi) {
+            (false, _) => v + turn,
+            (true, false) => v - turn,
+            (true, true) => v,
+        }
+    }
+
     /// Clamp v; with it 1 where that is a stop, since lo or hi is answered in place of v, else 0.
-    pub(crate) fn clamp(&self, v: f64) -> (f64, u64) {
+    fn clamp(&self, v: f64) -> (f64, u64) {
         if self.lo <= v {
             if v <= self.hi {
                 (v, 0)
@@ -110,12 +142,12 @@ pub(crate) fn shown_bits(x: f64) -> u64 {
     }
 }
 
-/// A refused call's number, with the axis, from 1, for numbers 2 to 4, else 0.
+/// A refused call's number, with the axis, from 1, for numbers 2 to 4 and 13, else 0.
 #[derive(Clone, Copy, Debug, PartialEq, Eq)]
 pub struct Refusal {
     /// The number in the table of refused calls.
     pub number: u64,
-    /// The axis that comes with numbers 2 to 4.
+    /// The axis that comes with numbers 2 to 4 and 13.
     pub axis: u64,
 }
 
@@ -146,18 +178,18 @@ impl Vertex {
     };
 }
 
-/// A point clamped axis by axis, with its stops.
+/// A point brought into the axes, one by one, with its stops.
 #[derive(Clone, Copy, Debug, PartialEq)]
-pub(crate) struct Clamped {
+pub(crate) struct Brought {
     /// The point.
     pub(crate) point: Point,
-    /// How many of its axes the clamp changed.
+    /// How many of its axes the clamp changed; a ring is none of them.
     pub(crate) stops: u64,
 }
 
-impl Clamped {
+impl Brought {
     /// The point whose coordinates are all 0, no stop among them.
-    pub(crate) const ORIGIN: Clamped = Clamped {
+    pub(crate) const ORIGIN: Brought = Brought {
         point: ORIGIN,
         stops: 0,
     };
@@ -170,6 +202,6 @@ pub struct Trial {
     pub number: u64,
     /// The point.
     pub point: [f64; 8],
-    /// How many of its axes the clamp changed.
+    /// How many of its axes the clamp changed; a ring is none of them.
     pub stops: u64,
 }

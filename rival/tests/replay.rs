@@ -43,7 +43,7 @@ fn calls_before_an_opening_meet_the_closed_search() {
         word(8),
         word(11),
         zeros(10),
-        zeros(1) + &word(1) + &zeros(38) + &word(8),
+        zeros(1) + &word(1) + &zeros(46) + &word(8),
         zeros(207)
     );
     assert_eq!(transcript(&format!("a\n{}b\ns\n", tell(1, 1))), expected);
@@ -76,7 +76,7 @@ fn every_rule_is_read() {
     let phase = |rule: u64, e: u64| {
         let script = opening(1, rule, e, 9) + &tell(1, 10) + &tell(2, 10) + "s\n";
         let words = last_line(&script);
-        words.split(' ').nth(41).expect("a word").to_string()
+        words.split(' ').nth(49).expect("a word").to_string()
     };
     assert_eq!(phase(0, 0), "0000000000000006");
     assert_eq!(phase(1, 1), "0000000000000006");
@@ -144,7 +144,10 @@ fn parts_that_are_not_in_the_table_are_malformed() {
         (12, (1 << 32) + 1),
         (13, 1),
         (14, 0),
-        (14, 1),
+        (14, 9),
+        (14, (1 << 32) + 1),
+        (15, 0),
+        (15, 1),
         (u64::MAX, 0),
         (0, 1),
         (3, 0),
@@ -156,6 +159,70 @@ fn parts_that_are_not_in_the_table_are_malformed() {
     ] {
         assert_malformed(&write(part, which, 1));
     }
+}
+
+/// A ring is the fifth word of an axis record.
+fn with_ring(line: &str, axis: usize, ring: u64) -> String {
+    let at = 1 + 17 * (8 + 5 * axis - 1);
+    let mut line = line.to_string();
+    line.replace_range(at..at + 17, &word(ring));
+    line
+}
+
+/// "a ring above 1 on an `o` line or written by a `p` line"
+#[test]
+fn rings_above_1_are_malformed() {
+    for ring in [2, 3, 256, 1 << 32, (1 << 32) + 1, 1 << 63, u64::MAX] {
+        for axis in 1..=8 {
+            assert_malformed(&with_ring(&opening(1, 1, 1, 4), axis, ring));
+            assert_malformed(&with_ring(&opening(8, 1, 1, 9), axis, ring));
+            assert_malformed(&write(14, axis as u64, ring));
+        }
+    }
+    // Also where the opening would be refused.
+    assert_malformed(&with_ring(&opening(0, 1, 1, 4), 1, 2));
+}
+
+#[test]
+fn rings_of_an_opening() {
+    let none = zeros(2);
+    let start_at_hi = floats(&[8.0, 8.0, 1.0]);
+    let at_hi = opening(3, 1, 1, 9).replace(&floats(&[8.0, 0.0, 1.0]), &start_at_hi);
+    assert_eq!(last_line(&at_hi), format!("o{none}"));
+    for axis in 1..=3 {
+        let refused = format!("o{}{}", word(13), word(axis as u64));
+        assert_eq!(last_line(&with_ring(&at_hi, axis, 1)), refused);
+        let asked = with_ring(&at_hi, axis, 1) + "a\n";
+        assert_eq!(last_line(&asked), format!("a{}{}", word(8), zeros(10)));
+    }
+    for axis in 4..=8 {
+        let given = with_ring(&at_hi, axis, 1);
+        assert_eq!(last_line(&given), format!("o{none}"));
+        assert_eq!(
+            last_line(&(given + "s\n")),
+            last_line(&(at_hi.clone() + "s\n"))
+        );
+    }
+    let ring = with_ring(&opening(2, 1, 4, 100), 2, 1);
+    assert_eq!(
+        last_line(&(ring.clone() + "s\n")).get(..817),
+        Some(ring.trim().replacen('o', "s", 1).as_str())
+    );
+}
+
+/// From hi/2 a step of 8 goes over the seam of a ring, and down elsewhere.
+#[test]
+fn asks_on_a_ring() {
+    let steep = opening(1, 1, 4, 100).replace(&floats(&[0.0, 1.0]), &floats(&[4.0, 8.0]));
+    let asked = |x: f64| format!("a{}{}{}{}", word(0), word(2), floats(&[x]), zeros(8));
+    let told = tell(1, 5) + "a\n";
+    assert_eq!(last_line(&(steep.clone() + &told)), asked(-4.0));
+    assert_eq!(last_line(&(with_ring(&steep, 1, 1) + &told)), asked(-4.0));
+    let shorter = steep.replace(&floats(&[4.0, 8.0]), &floats(&[4.0, 6.0]));
+    assert_eq!(last_line(&(shorter.clone() + &told)), asked(-2.0));
+    assert_eq!(last_line(&(with_ring(&shorter, 1, 1) + &told)), asked(-6.0));
+    let turned = shorter + &tell(1, 5) + &write(14, 1, 1) + "a\n";
+    assert_eq!(last_line(&turned), asked(-6.0));
 }
 
 #[test]

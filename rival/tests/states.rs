@@ -147,17 +147,17 @@ fn word_of(script: &str, index: usize) -> String {
 #[test]
 fn every_part_is_written() {
     let value = 0x0123_4567_89ab_cdef;
-    let plain = [(0, 0, 0), (1, 0, 7), (2, 0, 42), (7, 0, 58), (13, 0, 59)];
-    let counts = (1..=7).map(|which| (3, which, 42 + which as usize));
-    let phases = [0, 5, 6].map(|phase| (4, phase, 41));
+    let plain = [(0, 0, 0), (1, 0, 7), (2, 0, 50), (7, 0, 66), (13, 0, 67)];
+    let counts = (1..=7).map(|which| (3, which, 50 + which as usize));
+    let phases = [0, 5, 6].map(|phase| (4, phase, 49));
     let places = (1..=9).map(|place| (place, 10 * place as usize));
     let standing = places
         .clone()
-        .flat_map(|(p, at)| [(5, p, 66 + at), (11, p, 67 + at)]);
-    let gathered = places.flat_map(|(p, at)| [(6, p, 156 + at), (12, p, 157 + at)]);
+        .flat_map(|(p, at)| [(5, p, 74 + at), (11, p, 75 + at)]);
+    let gathered = places.flat_map(|(p, at)| [(6, p, 164 + at), (12, p, 165 + at)]);
     let rules = [(8, 1, 2), (8, 2, 2), (8, 3, 2)];
-    let low = (1..=8).map(|axis| (9, axis, 4 + 4 * axis as usize));
-    let high = (1..=8).map(|axis| (10, axis, 5 + 4 * axis as usize));
+    let low = (1..=8).map(|axis| (9, axis, 3 + 5 * axis as usize));
+    let high = (1..=8).map(|axis| (10, axis, 4 + 5 * axis as usize));
     let all = plain.into_iter().chain(counts).chain(phases);
     let all = all.chain(standing).chain(gathered).chain(rules);
     for (part, which, at) in all.chain(low).chain(high) {
@@ -170,11 +170,24 @@ fn every_part_is_written() {
 }
 
 #[test]
+fn rings_are_written() {
+    for axis in 1..=8 {
+        for script in [String::new(), example(&[30, 20, 10, 31, 30])] {
+            let on = script + &write(14, axis, 1);
+            let at = 7 + 5 * axis as usize;
+            assert_eq!(last_line(&on), "p");
+            assert_eq!(word_of(&on, at), word(1).trim());
+            assert_eq!(word_of(&(on + &write(14, axis, 0)), at), word(0).trim());
+        }
+    }
+}
+
+#[test]
 fn phases_without_a_detail() {
     for phase in [1, 2, 3, 4, 7, 8] {
         let script = example(&[30, 20, 10, 5]) + &write(4, phase, 9);
-        assert_eq!(word_of(&script, 40), word(phase).trim());
-        assert_eq!(word_of(&script, 41), word(0).trim());
+        assert_eq!(word_of(&script, 48), word(phase).trim());
+        assert_eq!(word_of(&script, 49), word(0).trim());
     }
 }
 
@@ -193,7 +206,7 @@ fn calls_go_on_from_what_is_written() {
     );
     let script = script + &write(1, 0, 101) + &tell(101, 4);
     assert_eq!(last_line(&script), format!("t{}", word(0)));
-    assert_eq!(word_of(&script, 40), word(8).trim());
+    assert_eq!(word_of(&script, 48), word(8).trim());
 }
 
 /// "A NaN is shown as 7ff8000000000000, whichever it is."
@@ -216,7 +229,7 @@ fn a_nan_has_one_word() {
     let script = script + &tell(1, 7);
     let best = word(0) + &shown + &zeros(7) + &word(7) + &word(1);
     assert_eq!(last_line(&(script.clone() + "b\n")), format!("b{best}"));
-    for at in [50, 158] {
+    for at in [58, 166] {
         assert_eq!(word_of(&script, at), shown.trim());
     }
 }

@@ -6,7 +6,7 @@ use crate::text::word;
 use crate::types::{Axis, Coefficients, Rule, MAX_AXES};
 
 /// The words of an opening.
-const OPENING_WORDS: usize = 40;
+const OPENING_WORDS: usize = 48;
 
 /// A call of the script.
 pub(super) enum Call {
@@ -46,7 +46,7 @@ pub(super) fn read(line: &[u8]) -> Option<Call> {
         (b't', 2) => Some(Call::Tell(words[0], words[1])),
         (b'b', 0) => Some(Call::Best),
         (b's', 0) => Some(Call::Show),
-        (b'p', 3) => Part::numbered(words[0], words[1]).map(|part| Call::Write(part, words[2])),
+        (b'p', 3) => read_written([words[0], words[1], words[2]]),
         (b'r', 2) if words[1] <= series::LONGEST => Some(Call::Series(words[0], words[1])),
         _ => None,
     }
@@ -64,12 +64,17 @@ fn read_words(text: &[u8], words: &mut [u64; OPENING_WORDS]) -> Option<usize> {
     Some(count)
 }
 
-/// Reads an opening from its words; none if its rule is above 3.
+/// Reads a line that writes a part.
+fn read_written([part, which, value]: [u64; 3]) -> Option<Call> {
+    Part::written(part, which, value).map(|part| Call::Write(part, value))
+}
+
+/// Reads an opening from its words; none if its rule is above 3 or a ring, though past n, is above 1.
 fn read_opening(words: &[u64; OPENING_WORDS]) -> Option<Opening> {
     let float = |i: usize| f64::from_bits(words[i]);
     let mut axes = [Axis::default(); MAX_AXES];
-    for (axis, record) in axes.iter_mut().zip(words[8..].chunks_exact(4)) {
-        *axis = read_axis(record);
+    for (axis, record) in axes.iter_mut().zip(words[8..].chunks_exact(5)) {
+        *axis = read_axis(record)?;
     }
     Some(Opening {
         n: words[0],
@@ -85,13 +90,23 @@ fn read_opening(words: &[u64; OPENING_WORDS]) -> Option<Opening> {
     })
 }
 
-/// Reads lo, hi, start, step.
-fn read_axis(record: &[u64]) -> Axis {
-    Axis {
+/// Reads lo, hi, start, step, ring; none if the ring is above 1.
+fn read_axis(record: &[u64]) -> Option<Axis> {
+    Some(Axis {
         lo: f64::from_bits(record[0]),
         hi: f64::from_bits(record[1]),
         start: f64::from_bits(record[2]),
         step: f64::from_bits(record[3]),
+        ring: read_ring(record[4])?,
+    })
+}
+
+/// Reads whether an axis is a ring: 1 where it is one, else 0.
+fn read_ring(ring: u64) -> Option<bool> {
+    match ring {
+        0 => Some(false),
+        1 => Some(true),
+        _ => None,
     }
 }
 

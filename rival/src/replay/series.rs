@@ -12,6 +12,7 @@ const AXIS: Axis = Axis {
     hi: 8.0,
     start: 0.0,
     step: 1.0,
+    ring: false,
 };
 
 /// The budget of every search.

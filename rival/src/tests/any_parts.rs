@@ -44,12 +44,13 @@ fn limit(search: &Search, seed: &mut u64) -> u64 {
 /// Writes some part, put back in most cases where calls are then refused with 12.
 fn write_any(search: &mut Search, seed: &mut u64) {
     let before = search.clone();
-    let part = next(seed) % 14;
-    let most = [0, 0, 0, 7, 8, 9, 9, 0, 3, 8, 8, 9, 9, 0][part as usize];
+    let part = next(seed) % 15;
+    let most = [0, 0, 0, 7, 8, 9, 9, 0, 3, 8, 8, 9, 9, 0, 8][part as usize];
     let from_1 = ![0, 1, 2, 4, 7, 13].contains(&part);
     let which = u64::from(from_1).max(next(seed) % (most + 1));
     let value = match part {
         9 | 10 => limit(search, seed),
+        14 => next(seed) % 2,
         _ => number(search, seed),
     };
     write(search, (part, which, value));
@@ -86,6 +87,14 @@ fn tell_any(search: &mut Search, seed: &mut u64) {
     assert_eq!(told.is_err(), before == search.words());
 }
 
+/// The axis of the examples, or a ring with its limits.
+fn any_ring(seed: &mut u64) -> Axis {
+    Axis {
+        ring: next(seed).is_multiple_of(2),
+        ..USUAL_AXIS
+    }
+}
+
 /// Leads one search, opened or closed, through tells and written parts; answers how many tells were accepted.
 fn lead(mut search: Search, seed: &mut u64) -> u64 {
     let mut accepted = 0;
@@ -110,7 +119,7 @@ fn searches_go_on_from_their_parts() {
         let n = 1 + next(&mut seed) % 8;
         let search = match round % 10 {
             0 => Search::closed(),
-            _ => open(n, USUAL_AXIS, rule, 300),
+            _ => open(n, any_ring(&mut seed), rule, 300),
         };
         accepted += lead(search, &mut seed);
     }

@@ -234,7 +234,7 @@ fn costs_of_r() {
         assert_accepted(search.clone(), (6, 1, 16_777_215));
         // No value is read with these phases.
         assert_accepted(search.clone(), (4, phase, u64::MAX));
-        assert_eq!(search.words()[40..42], [phase, 0]);
+        assert_eq!(search.words()[48..50], [phase, 0]);
     }
     assert_accepted(reflecting(), (4, 1, u64::MAX));
 }

@@ -11,6 +11,9 @@ mod numbers;
 mod parts;
 mod probing;
 mod refusals;
+mod ring_refusals;
+mod ring_searches;
+mod rings;
 mod stopping;
 mod stops;
 
@@ -23,6 +26,7 @@ const USUAL_AXIS: Axis = Axis {
     hi: 8.0,
     start: 0.0,
     step: 1.0,
+    ring: false,
 };
 
 /// Eight equal axis records.

@@ -26,7 +26,7 @@ fn unusual(costs: &[u64]) -> Search {
 
 /// The bits of clamp v, and whether it is a stop.
 fn clamped(record: Axis, v: f64) -> (u64, u64) {
-    let (x, stop) = record.clamp(v);
+    let (x, stop) = record.bring(v);
     (x.to_bits(), stop)
 }
 
@@ -96,6 +96,7 @@ fn build_down_step_is_clamped() {
         hi: 0.75,
         start: f64::from_bits(0xbfd0000000000006),
         step: f64::from_bits(0x3ff0000000000002),
+        ring: false,
     };
     assert_eq!((record.start - record.step).to_bits(), 0xbff4000000000004);
     let search = after(open(1, record, Rule::Spread(4), 9), &[1]);

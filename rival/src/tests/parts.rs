@@ -18,6 +18,7 @@ fn three_axes() -> Search {
         hi: 10.0,
         start: 5.0,
         step: 1.0,
+        ring: false,
     };
     let rule = Some(Rule::Spread(1));
     Search::open(3, &given, rule, Coefficients::USUAL, 100).expect("opening")
@@ -40,8 +41,9 @@ fn words_that_name_no_part() {
         (10, 8),
         (11, 9),
         (12, 9),
+        (14, 8),
     ];
-    for (part, most) in counted.into_iter().chain([(14, 0), (u64::MAX, 0)]) {
+    for (part, most) in counted.into_iter().chain([(15, 0), (u64::MAX, 0)]) {
         assert!(!search.write_part(part, 0, 0));
         assert!(!search.write_part(part, most + 1, 0));
         assert!(!search.write_part(part, (1 << 32) + 1, 0));
@@ -52,16 +54,16 @@ fn words_that_name_no_part() {
 #[test]
 fn every_part_is_shown() {
     let mut search = Search::closed();
-    let mut expected = vec![0; 248];
+    let mut expected = vec![0; 256];
     expected[1] = 1;
-    expected[40] = 8;
+    expected[48] = 8;
     assert_eq!(search.words(), expected);
-    let parts = [(0, 0, 0), (1, 0, 7), (2, 0, 42), (7, 0, 58), (13, 0, 59)];
-    let counts = (1..=7).map(|which| (3, which, 42 + which));
-    let standing = (1..=9).flat_map(|p| [(5, p, 66 + 10 * p), (11, p, 67 + 10 * p)]);
-    let gathered = (1..=9).flat_map(|p| [(6, p, 156 + 10 * p), (12, p, 157 + 10 * p)]);
-    let low = (1..=8).map(|axis| (9, axis, 4 + 4 * axis));
-    let high = (1..=8).map(|axis| (10, axis, 5 + 4 * axis));
+    let parts = [(0, 0, 0), (1, 0, 7), (2, 0, 50), (7, 0, 66), (13, 0, 67)];
+    let counts = (1..=7).map(|which| (3, which, 50 + which));
+    let standing = (1..=9).flat_map(|p| [(5, p, 74 + 10 * p), (11, p, 75 + 10 * p)]);
+    let gathered = (1..=9).flat_map(|p| [(6, p, 164 + 10 * p), (12, p, 165 + 10 * p)]);
+    let low = (1..=8).map(|axis| (9, axis, 3 + 5 * axis));
+    let high = (1..=8).map(|axis| (10, axis, 4 + 5 * axis));
     let all = parts.into_iter().chain(counts).chain(standing);
     for (part, which, at) in all.chain(gathered).chain(low).chain(high) {
         let value = 1_000_000_007 * (at + 1);
@@ -72,12 +74,31 @@ fn every_part_is_shown() {
 }
 
 #[test]
+fn rings_are_shown() {
+    let mut search = after_p1(&[]);
+    let before = search.words();
+    for axis in 1..=8 {
+        let at = 7 + 5 * axis as usize;
+        for value in [2, 256, (1 << 32) + 1, u64::MAX] {
+            assert!(!search.write_part(14, axis, value));
+            assert_eq!(search.words(), before);
+        }
+        write(&mut search, (14, axis, 1));
+        let mut expected = before.clone();
+        expected[at] = 1;
+        assert_eq!(search.words(), expected);
+        write(&mut search, (14, axis, 0));
+        assert_eq!(search.words(), before);
+    }
+}
+
+#[test]
 fn phases_and_rules_are_shown() {
     let mut search = after_p1(&[]);
     for phase in 0..=8 {
         write(&mut search, (4, phase, u64::MAX));
         let detail = [0, u64::MAX][usize::from([0, 5, 6].contains(&phase))];
-        assert_eq!(search.words()[40..42], [phase, detail]);
+        assert_eq!(search.words()[48..50], [phase, detail]);
     }
     for rule in 1..=3 {
         // as a float this is negative and is no NaN

@@ -1,4 +1,4 @@
-//! Every row of the refusal table but 12: edges, order and axis.
+//! Every row of document 01's refusal table but 12: edges, order and axis.
 
 use super::*;
 use crate::search::{Cause, Phase};
@@ -46,6 +46,7 @@ fn second(lo: f64, hi: f64, start: f64, step: f64) -> (u64, u64) {
             hi,
             start,
             step,
+            ring: false,
         }
     })
 }

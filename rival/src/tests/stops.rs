@@ -129,6 +129,7 @@ fn a_step_back_that_is_clamped_is_one() {
         hi: f64::from_bits(0x3ff7_af02_08d6_af57),
         start: f64::from_bits(0x3fd2_6e16_458a_af56),
         step: f64::from_bits(0x3ff3_137c_7774_0382),
+        ring: false,
     };
     assert!(record.start + record.step > record.hi && record.start - record.step < record.lo);
     let mut given = axes(USUAL_AXIS);
@@ -184,6 +185,7 @@ fn a_contraction_where_the_sum_rounds_past_hi() {
         hi,
         start: hi,
         step: 0.5,
+        ring: false,
     };
     let given = Coefficients {
         beta: 1e-300,

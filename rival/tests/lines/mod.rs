@@ -18,7 +18,8 @@ pub fn zeros(count: usize) -> String {
 
 /// An opening with the axis of the examples on the first n records, zeros past them.
 pub fn opening(n: u64, rule: u64, e: u64, budget: u64) -> String {
-    let axes = floats(&[-8.0, 8.0, 0.0, 1.0]).repeat(n as usize) + &zeros(32 - 4 * n as usize);
+    let axis = floats(&[-8.0, 8.0, 0.0, 1.0]) + &word(0);
+    let axes = axis.repeat(n as usize) + &zeros(40 - 5 * n as usize);
     let coefficients = floats(&[1.0, 2.0, 0.5, 0.5]);
     let first = word(n) + &word(rule) + &word(e);
     format!("o{first}{coefficients}{}{axes}\n", word(budget))
