@@ -9,6 +9,7 @@ pub const ROUND: Axis = Axis {
     hi: 8.0,
     start: 0.0,
     step: 1.0,
+    ring: false,
 };
 const TINIEST: f64 = f64::from_bits(1);
 
@@ -19,19 +20,21 @@ const MAKERS: [Maker; 14] = [
     scaled, tight,
 ];
 
-/// Whether no check of rows 2 to 4 of the table of refusals refuses the record.
+/// Whether neither a check of rows 2 to 4 of the table of refusals nor 13 refuses the record.
 pub fn fits(axis: &Axis) -> bool {
     let Axis {
         lo,
         hi,
         start,
         step,
+        ring,
     } = *axis;
+    let at_seam = ring && start == hi;
     let ranged = [lo, hi, start, step]
         .iter()
         .all(|v| -RANGE <= *v && *v <= RANGE);
     let ordered = lo < hi && lo <= start && start <= hi && step > 0.0;
-    ranged && ordered && start + step != start && step <= (hi - lo) / 2.0
+    ranged && ordered && !at_seam && start + step != start && step <= (hi - lo) / 2.0
 }
 
 /// Eight records, of which those up to n fit. The search's own habit: all round, all of one kind, or each of any kind.
@@ -69,12 +72,14 @@ fn past(random: &mut Random) -> Axis {
             hi: f64::INFINITY,
             start: -RANGE * 2.0,
             step: -1.0,
+            ring: false,
         },
         _ => Axis {
             lo: bits(random),
             hi: bits(random),
             start: bits(random),
             step: bits(random),
+            ring: false,
         },
     }
 }
@@ -91,6 +96,7 @@ fn round(random: &mut Random) -> Axis {
         hi,
         start,
         step: hi * random.power(-5, -1),
+        ring: false,
     }
 }
 
@@ -104,6 +110,7 @@ fn wide(random: &mut Random) -> Axis {
         hi,
         start,
         step: (hi - lo) * random.within(0.001, 0.5),
+        ring: false,
     }
 }
 
@@ -128,6 +135,7 @@ fn narrow(random: &mut Random) -> Axis {
         hi,
         start: above(lo, from),
         step: (lo.next_up() - lo) * ulps,
+        ring: false,
     }
 }
 
@@ -153,24 +161,28 @@ fn zeros(random: &mut Random) -> Axis {
             hi: 8.0,
             start: other,
             step,
+            ring: false,
         },
         1 => Axis {
             lo: -8.0,
             hi: zero,
             start: other,
             step,
+            ring: false,
         },
         2 => Axis {
             lo: -8.0,
             hi: zero,
             start: -step,
             step,
+            ring: false,
         },
         _ => Axis {
             lo: -8.0,
             hi: 8.0,
             start: zero,
             step,
+            ring: false,
         },
     }
 }
@@ -185,6 +197,7 @@ fn subnormal(random: &mut Random) -> Axis {
         hi,
         start,
         step: random.pick(&[unit, unit * 2.0, TINIEST, (hi - lo) / 2.0]),
+        ring: false,
     }
 }
 
@@ -206,6 +219,7 @@ fn middle(random: &mut Random) -> Axis {
             hi,
             start,
             step,
+            ..
         } = **axis;
         start + step > hi && start - step < lo && fits(axis)
     };
@@ -220,6 +234,7 @@ fn halved(random: &mut Random) -> Axis {
         hi,
         start: (lo + hi) / 2.0,
         step: (hi - lo) / 2.0,
+        ring: false,
     }
 }
 
@@ -235,6 +250,7 @@ fn far(random: &mut Random) -> Axis {
         hi,
         start,
         step: random.pick(&[RANGE, 1.0, 1024.0, 0.001, any]),
+        ring: false,
     }
 }
 
@@ -250,6 +266,7 @@ fn reaching(random: &mut Random) -> Axis {
         hi,
         start,
         step,
+        ring: false,
     }
 }
 
@@ -264,6 +281,7 @@ fn scaled(random: &mut Random) -> Axis {
         hi,
         start,
         step: (hi - lo) * random.power(-12, -2),
+        ring: false,
     }
 }
 
@@ -277,5 +295,6 @@ fn tight(random: &mut Random) -> Axis {
         hi: start + step * random.within(1.0, 1.5),
         start,
         step,
+        ring: false,
     }
 }

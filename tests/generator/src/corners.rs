@@ -88,6 +88,7 @@ fn ending(random: &mut Random, steps: f64) -> Axis {
         hi,
         start,
         step,
+        ring: false,
     }
 }
 

@@ -5,6 +5,7 @@ use crate::costs::{Costs, DARK};
 use crate::edges;
 use crate::openings::{self, Opening};
 use crate::random::Random;
+use crate::rings;
 use crate::script::{Script, LIMIT};
 
 /// Bytes that are left for what follows the tells of a script.
@@ -40,6 +41,9 @@ pub fn course(script: &mut Script, random: &mut Random, manner: Manner, tells: u
         lead(script, random, Manner::Neat, &opening, costs, tells);
     } else {
         let mut opening = openings::fitting(random, tells);
+        if script.rings {
+            rings::turn(random, &mut opening);
+        }
         let costs = planned_costs(random, &mut opening, tells);
         lead(script, random, manner, &opening, costs, tells);
     }

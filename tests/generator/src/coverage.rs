@@ -2,6 +2,7 @@
 
 use crate::causes::{Causes, Watch};
 use crate::ends::{self, Ends};
+use crate::ring_counts::{self, Follower, Rings};
 use crate::stops::{Origin, Stops};
 use crate::traces::{Tracer, Traces};
 use rival::replay::Replay;
@@ -11,7 +12,7 @@ use rival::replay::Replay;
 pub struct Calls {
     pub accepted: u64,
     /// By the refusal's number.
-    pub refused: [u64; 13],
+    pub refused: [u64; 14],
 }
 
 impl Calls {
@@ -57,6 +58,7 @@ pub struct Coverage {
     pub causes: Causes,
     pub stops: Stops,
     pub traces: Traces,
+    pub rings: Rings,
     /// `s` lines of opened searches by phase, while no part is written.
     pub phases: [u64; 9],
     /// Searches that were last shown ended, settled and by the budget.
@@ -96,15 +98,19 @@ impl Coverage {
         let mut watch = Watch::default();
         let mut origin = Origin::default();
         let mut tracer = Tracer::default();
+        let mut follower = Follower::default();
         let answers = transcript.split(|b| *b == b'\n');
         for (line, answer) in script.split(|b| *b == b'\n').zip(answers) {
             if line.is_empty() || line.first() != answer.first() {
                 self.malformed_parts += u64::from(line.first() == Some(&b'p'));
+                ring_counts::malformed(line, &mut self.rings);
                 return;
             }
             let verdict = word(answer, 0);
             watch.see(line, verdict, replay.search(), &mut self.causes);
             tracer.see(line, verdict, replay.search(), &mut self.traces);
+            let words: [u64; 11] = std::array::from_fn(|at| word(answer, at));
+            follower.see(line, &words, replay.search(), &mut self.rings);
             origin.see(line);
             if line == b"a" && verdict == 0 {
                 origin.count(replay.search(), word(answer, 10), &mut self.stops);
@@ -154,8 +160,8 @@ impl Coverage {
     /// Counts the phase and keeps the state, if a search is open; the closed search is left out.
     fn add_state(&mut self, line: &[u8], shown: &mut Option<Shown>) {
         if let Some(shown) = shown {
-            shown.phase = word(line, 40);
-            shown.counts = std::array::from_fn(|i| word(line, 43 + i));
+            shown.phase = word(line, 48);
+            shown.counts = std::array::from_fn(|i| word(line, 51 + i));
             add_at(&mut self.phases, shown.phase);
         }
     }
@@ -210,6 +216,7 @@ impl Coverage {
         self.causes.join(&other.causes);
         self.stops.join(&other.stops);
         self.traces.join(&other.traces);
+        self.rings.join(&other.rings);
         add_all(&mut self.phases, &other.phases);
         add_all(&mut self.endings, &other.endings);
         add_all(&mut self.pieces, &other.pieces);

@@ -6,8 +6,8 @@ use crate::random::Random;
 use crate::script::Script;
 use crate::{parts, state};
 
-pub fn script(random: &mut Random) -> Vec<u8> {
-    let mut script = plain(random);
+pub fn script(random: &mut Random, rings: bool) -> Vec<u8> {
+    let mut script = plain(random, rings);
     if random.one_in(12) {
         too_long_series(&mut script, random);
         return script.text.into_bytes();
@@ -19,6 +19,7 @@ pub fn script(random: &mut Random) -> Vec<u8> {
         2 | 3 => other_rule(random, &mut text),
         4..=8 => odd_line(random, &mut text),
         9 | 10 => other_part(random, &mut text),
+        11 => other_ring(random, &mut text),
         _ => damage(random, &mut text),
     }
     if random.one_in(6) {
@@ -28,11 +29,11 @@ pub fn script(random: &mut Random) -> Vec<u8> {
 }
 
 /// A short script that is not damaged yet; one in three writes parts.
-fn plain(random: &mut Random) -> Script {
+fn plain(random: &mut Random, rings: bool) -> Script {
     if random.one_in(3) {
-        return parts::short(random);
+        return parts::short(random, rings);
     }
-    let mut script = Script::new();
+    let mut script = Script::with(rings);
     let tells = random.between(1, 15);
     courses::course(&mut script, random, Manner::Loose, tells);
     script
@@ -51,6 +52,19 @@ fn other_rule(random: &mut Random, text: &mut [u8]) {
     let rule: u64 = random.pick(&[4, 4, 5, 9, 16, 257, (1 << 32) + 1, 1 << 63, u64::MAX]);
     let word = format!("{rule:016x}");
     text[19..35].copy_from_slice(word.as_bytes());
+}
+
+/// A ring above 1 in the opening, or in a line more that writes one.
+fn other_ring(random: &mut Random, text: &mut Vec<u8>) {
+    let ring: u64 = random.pick(&[2, 2, 3, 256, 257, 1 << 32, (1 << 32) + 1, 1 << 63, u64::MAX]);
+    let axis = random.between(1, 8);
+    if random.one_in(2) {
+        let at = 2 + 17 * (7 + 5 * axis as usize);
+        text[at..at + 16].copy_from_slice(format!("{ring:016x}").as_bytes());
+    } else {
+        let line = format!("p {:016x} {axis:016x} {ring:016x}\n", 14);
+        insert_line(random, text, line.into_bytes());
+    }
 }
 
 /// A line more, of some letter and none to four words.
@@ -91,7 +105,9 @@ fn other_part(random: &mut Random, text: &mut Vec<u8>) {
         (11, 9),
         (12, 9),
         (13, 0),
-        (14, 0),
+        (14, 8),
+        (14, 8),
+        (15, 0),
     ];
     let (part, most): (u64, u64) = random.pick(&edges);
     let huge = random.pick(&[u64::MAX, 1 << 32, (1 << 32) + most, 1 << 63]);

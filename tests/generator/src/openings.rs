@@ -33,8 +33,7 @@ impl Opening {
             .iter()
             .for_each(|v| push_word(&mut line, v.to_bits()));
         push_word(&mut line, self.budget);
-        let numbers = self.axes.iter().flat_map(|a| [a.lo, a.hi, a.start, a.step]);
-        numbers.for_each(|v| push_word(&mut line, v.to_bits()));
+        self.axes.iter().for_each(|axis| push_axis(&mut line, axis));
         line.push('\n');
         line
     }
@@ -64,6 +63,14 @@ impl Opening {
             _ => None,
         }
     }
+}
+
+/// The words of an axis record: lo, hi, start, step, ring.
+fn push_axis(line: &mut String, axis: &Axis) {
+    for v in [axis.lo, axis.hi, axis.start, axis.step] {
+        push_word(line, v.to_bits());
+    }
+    push_word(line, u64::from(axis.ring));
 }
 
 fn push_word(line: &mut String, word: u64) {

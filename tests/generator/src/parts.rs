@@ -9,6 +9,8 @@ use crate::mild;
 use crate::numbers;
 use crate::openings;
 use crate::random::Random;
+use crate::ring_writes;
+use crate::rings;
 use crate::script::{Script, LIMIT};
 use crate::state::Written;
 use crate::writes;
@@ -17,8 +19,8 @@ use crate::writes;
 const ROOM: usize = 16_384;
 
 /// A script with so many episodes, more or less.
-pub fn script(random: &mut Random) -> Script {
-    let mut script = Script::new();
+pub fn script(random: &mut Random, rings: bool) -> Script {
+    let mut script = Script::with(rings);
     if random.one_in(5) {
         closed(&mut script, random);
     }
@@ -30,8 +32,8 @@ pub fn script(random: &mut Random) -> Script {
 }
 
 /// A short script, to be damaged.
-pub fn short(random: &mut Random) -> Script {
-    let mut script = Script::new();
+pub fn short(random: &mut Random, rings: bool) -> Script {
+    let mut script = Script::with(rings);
     let episodes = random.between(1, 4);
     search(&mut script, random, episodes);
     script
@@ -57,7 +59,10 @@ fn search(script: &mut Script, random: &mut Random, episodes: u64) {
 
 fn open(script: &mut Script, random: &mut Random) -> Costs {
     let tells = random.between(20, 300);
-    let opening = openings::fitting(random, tells);
+    let mut opening = openings::fitting(random, tells);
+    if script.rings {
+        rings::turn(random, &mut opening);
+    }
     script.open(&opening);
     Costs::of(random, &opening, Vec::new())
 }
@@ -79,7 +84,7 @@ fn lead(script: &mut Script, random: &mut Random, costs: &mut Costs) {
 }
 
 /// Tells the cost of the trial, if there is one.
-fn measure(script: &mut Script, random: &mut Random, costs: &mut Costs) {
+pub fn measure(script: &mut Script, random: &mut Random, costs: &mut Costs) {
     if let Some(trial) = script.trial() {
         let cost = costs.next(random, &trial.point);
         costs.tell(cost);
@@ -88,6 +93,9 @@ fn measure(script: &mut Script, random: &mut Random, costs: &mut Costs) {
 }
 
 fn episode(script: &mut Script, random: &mut Random, costs: &mut Costs) {
+    if script.rings && random.one_in(3) {
+        return ring_writes::episode(script, random, costs);
+    }
     match random.below(26) {
         0 | 1 => several(script, random, costs),
         2..=4 => going_on(script, random, costs),

@@ -1,4 +1,4 @@
-//! Openings at the edges of rows 1 to 7 of the table of refusals: a fitting opening with one to three of its numbers moved to an edge,
+//! Openings at the edges of rows 1 to 7 of document 01's table of refusals: a fitting opening with one to three of its numbers moved to an edge,
 //! some just inside and most just outside.
 
 use crate::axes::{self, RANGE};
@@ -133,6 +133,7 @@ fn limits(random: &mut Random, opening: &mut Opening) {
                 hi: 0.0,
                 start: 0.0,
                 step: 1.0,
+                ring: axis.ring,
             }
         }
     }
@@ -256,6 +257,7 @@ fn inside(random: &mut Random, opening: &mut Opening) {
         hi: RANGE,
         start: RANGE,
         step: RANGE,
+        ring: false,
     };
     *axis(random, opening) = random.pick(&[other, farthest]);
 }

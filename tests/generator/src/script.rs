@@ -10,6 +10,8 @@ pub const LIMIT: usize = 262_144;
 pub struct Script {
     pub text: String,
     pub told: u64,
+    /// Whether its openings have rings.
+    pub rings: bool,
     search: Search,
     /// Whether a part of the search was written.
     made_up: bool,
@@ -17,9 +19,15 @@ pub struct Script {
 
 impl Script {
     pub fn new() -> Script {
+        Script::with(false)
+    }
+
+    /// A script whose openings have rings, or have none.
+    pub fn with(rings: bool) -> Script {
         Script {
             text: String::new(),
             told: 0,
+            rings,
             search: Search::closed(),
             made_up: false,
         }

@@ -1,31 +1,34 @@
-//! Script number k of a seed. Scripts 0 and 1 are the longest that is read and one byte more; the others are of one of four kinds.
+//! Script number k of a seed. Scripts 0 and 1 are the longest that is read and one byte more; the others are of one of four kinds, and
+//! in two of five some or all axes are rings.
 
 use crate::courses::{self, Manner};
 use crate::malformed;
 use crate::parts;
 use crate::random::Random;
-use crate::refusals;
 use crate::script::{Script, LIMIT};
+use crate::seams;
 
 const KIND: u64 = 1;
+const RINGS: u64 = 3;
 
 pub fn script(seed: u64, number: u64) -> Vec<u8> {
     let mut random = Random::of(seed, KIND, number);
+    let rings = Random::of(seed, RINGS, number).below(100) < 40;
     match number {
         0 => longest(&mut random),
         1 => too_long(&mut random),
         _ => match random.below(100) {
-            0..=21 => malformed::script(&mut random),
-            22..=35 => openings(&mut random),
-            36..=57 => parts::script(&mut random).text.into_bytes(),
-            _ => searches(&mut random),
+            0..=21 => malformed::script(&mut random, rings),
+            22..=35 => openings(&mut random, rings),
+            36..=57 => parts::script(&mut random, rings).text.into_bytes(),
+            _ => searches(&mut random, rings),
         },
     }
 }
 
 /// One to four searches that follow one another, few of them long, at times with refused openings or a series between.
-fn searches(random: &mut Random) -> Vec<u8> {
-    let mut script = Script::new();
+fn searches(random: &mut Random, rings: bool) -> Vec<u8> {
+    let mut script = Script::with(rings);
     let manner = random.pick(&[
         Manner::Quiet,
         Manner::Neat,
@@ -58,7 +61,8 @@ fn before(script: &mut Script, random: &mut Random) {
 
 fn between(script: &mut Script, random: &mut Random) {
     if random.one_in(6) {
-        script.open(&refusals::edged(random));
+        let opening = seams::edged(script, random);
+        script.open(&opening);
         courses::calls(script, random);
     }
     if random.one_in(8) {
@@ -67,10 +71,11 @@ fn between(script: &mut Script, random: &mut Random) {
 }
 
 /// Openings at the edges, most of them refused, with a few calls after each.
-fn openings(random: &mut Random) -> Vec<u8> {
-    let mut script = Script::new();
+fn openings(random: &mut Random, rings: bool) -> Vec<u8> {
+    let mut script = Script::with(rings);
     for _ in 0..random.between(5, 30) {
-        script.open(&refusals::edged(random));
+        let opening = seams::edged(&script, random);
+        script.open(&opening);
         courses::calls(&mut script, random);
         few_tells(&mut script, random);
     }

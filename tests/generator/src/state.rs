@@ -7,8 +7,8 @@ use rival::Search;
 pub type Written = [u64; 3];
 
 /// Where a place 0 of the standing simplex would begin, and one of the gathered simplex.
-const STANDING: usize = 58;
-const GATHERED: usize = 148;
+const STANDING: usize = 66;
+const GATHERED: usize = 156;
 
 pub struct State(Vec<u64>);
 
@@ -26,20 +26,20 @@ impl State {
     }
 
     pub fn phase(&self) -> u64 {
-        self.0[40]
+        self.0[48]
     }
 
     pub fn detail(&self) -> u64 {
-        self.0[41]
+        self.0[49]
     }
 
     pub fn readings(&self) -> u64 {
-        self.0[42]
+        self.0[50]
     }
 
     /// One of the seven counts, from 1.
     pub fn count(&self, which: u64) -> u64 {
-        self.0[42 + which as usize]
+        self.0[50 + which as usize]
     }
 
     pub fn builds(&self) -> u64 {
@@ -48,16 +48,41 @@ impl State {
 
     /// The bits of lo and hi of an axis, from 1.
     pub fn limits(&self, axis: u64) -> [u64; 2] {
-        let lo = 4 + 4 * axis as usize;
+        let lo = 3 + 5 * axis as usize;
         [self.0[lo], self.0[lo + 1]]
     }
 
+    /// The step of an axis, from 1.
+    pub fn step(&self, axis: u64) -> f64 {
+        f64::from_bits(self.0[6 + 5 * axis as usize])
+    }
+
+    /// Whether an axis, from 1, is a ring: 1 or 0.
+    pub fn ring(&self, axis: u64) -> u64 {
+        self.0[7 + 5 * axis as usize]
+    }
+
+    /// α, χ, β and σ.
+    pub fn coefficients(&self) -> [f64; 4] {
+        std::array::from_fn(|i| f64::from_bits(self.0[3 + i]))
+    }
+
+    /// The coordinates' bits of the best reading.
+    pub fn best_point(&self) -> &[u64] {
+        &self.0[58..66]
+    }
+
+    /// The coordinates' bits of the point that a build goes around.
+    pub fn center(&self) -> &[u64] {
+        &self.0[68..76]
+    }
+
     pub fn best(&self) -> u64 {
-        self.0[58]
+        self.0[66]
     }
 
     pub fn best_number(&self) -> u64 {
-        self.0[59]
+        self.0[67]
     }
 
     /// The cost at a place of the standing simplex, from 1.
@@ -131,6 +156,7 @@ impl State {
             11 => [11, which, self.standing_number(which)],
             12 => [12, which, self.gathered_number(which)],
             13 => [13, 0, self.best_number()],
+            14 => [14, which, self.ring(which)],
             _ => [8, self.0[1], self.0[2]],
         }
     }

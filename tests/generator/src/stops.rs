@@ -4,7 +4,18 @@ use crate::state::State;
 use rival::Search;
 
 /// What made a search: calls alone, or also lines that write parts, limits among them or not.
-pub const ORIGINS: [&str; 3] = ["calls alone", "other parts written", "limits written"];
+pub const ORIGINS: [&str; 3] = [
+    "calls alone",
+    "other parts written",
+    "limits or rings written",
+];
+
+/// The parts that are limits, and that of rings.
+const LIMITS: [&[u8]; 3] = [
+    b"0000000000000009",
+    b"000000000000000a",
+    b"000000000000000e",
+];
 
 /// By how many axes are at their stops.
 pub type Row = [u64; 9];
@@ -51,12 +62,12 @@ impl Stops {
 pub struct Origin(usize);
 
 impl Origin {
-    /// Takes a line of a script; an opening starts anew. A limit is part 9 or 10.
+    /// Takes a line of a script; an opening starts anew. A limit is part 9 or 10, a ring 14.
     pub fn see(&mut self, line: &[u8]) {
         let part = line.get(2..18).unwrap_or_default();
         match line.first() {
             Some(b'o') => self.0 = 0,
-            Some(b'p') if part == b"0000000000000009" || part == b"000000000000000a" => self.0 = 2,
+            Some(b'p') if LIMITS.iter().any(|limit| part == *limit) => self.0 = 2,
             Some(b'p') => self.0 = self.0.max(1),
             _ => {}
         }

@@ -2,6 +2,7 @@
 
 use crate::causes::{Causes, CALLS, CAUSES};
 use crate::coverage::{Coverage, ENDS};
+use crate::ring_summary;
 use crate::stops::{Stops, ORIGINS};
 use crate::trace_summary;
 
@@ -52,6 +53,7 @@ pub fn print(c: &Coverage) {
     print_causes(c);
     trace_summary::print(&c.traces, &c.text_named);
     print_stops(&c.stops);
+    ring_summary::print(&c.rings);
     print_texts(c);
 }
 
@@ -123,6 +125,7 @@ pub fn missing(c: &Coverage) -> Vec<String> {
         causes_needed(&c.causes),
         stops_needed(&c.stops),
         trace_summary::needed(&c.traces, &c.text_named),
+        ring_summary::needed(&c.rings),
         searches_needed(c),
         texts_needed(c),
     ]
@@ -187,7 +190,7 @@ fn most_by_calls(phase: usize, n: usize) -> usize {
 
 /// Every refusal from 1 to 11 that a script can meet.
 fn refusals_needed(c: &Coverage) -> Vec<Need> {
-    let openings = [1, 2, 3, 4, 5, 6, 7];
+    let openings = [1, 2, 3, 4, 5, 6, 7, 13];
     let axes = [1, 2, 3, 4, 5, 6, 7, 8];
     [
         each_number("openings refused by", &openings, &c.openings.refused),
