@@ -67,7 +67,7 @@ impl Origin {
         let part = line.get(2..18).unwrap_or_default();
         match line.first() {
             Some(b'o') => self.0 = 0,
-            Some(b'p') if LIMITS.iter().any(|limit| part == *limit) => self.0 = 2,
+            Some(b'p') if LIMITS.contains(&part) => self.0 = 2,
             Some(b'p') => self.0 = self.0.max(1),
             _ => {}
         }
