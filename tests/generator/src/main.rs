@@ -46,7 +46,7 @@ use std::io::Write;
 use std::process::ExitCode;
 
 const GATE_SEED: u64 = 1998;
-const GATE_SCRIPTS: u64 = 8000;
+const GATE_SCRIPTS: u64 = 10_000;
 const GATE_TEXTS: u64 = 4000;
 
 /// The numbers of the command line.

@@ -19,7 +19,7 @@ pub fn script(random: &mut Random, rings: bool) -> Vec<u8> {
         2 | 3 => other_rule(random, &mut text),
         4..=8 => odd_line(random, &mut text),
         9 | 10 => other_part(random, &mut text),
-        11 => other_ring(random, &mut text),
+        11 | 12 => other_ring(random, &mut text),
         _ => damage(random, &mut text),
     }
     if random.one_in(6) {
@@ -56,7 +56,18 @@ fn other_rule(random: &mut Random, text: &mut [u8]) {
 
 /// A ring above 1 in the opening, or in a line more that writes one.
 fn other_ring(random: &mut Random, text: &mut Vec<u8>) {
-    let ring: u64 = random.pick(&[2, 2, 3, 256, 257, 1 << 32, (1 << 32) + 1, 1 << 63, u64::MAX]);
+    let ring: u64 = random.pick(&[
+        2,
+        2,
+        2,
+        3,
+        256,
+        257,
+        1 << 32,
+        (1 << 32) + 1,
+        1 << 63,
+        u64::MAX,
+    ]);
     let axis = random.between(1, 8);
     if random.one_in(2) {
         let at = 2 + 17 * (7 + 5 * axis as usize);

@@ -229,6 +229,9 @@ fn closed(script: &mut Script, random: &mut Random) {
     script.write([0, 0, n]);
     script.write([1, 0, random.between(1, 40)]);
     script.write([2, 0, 0]);
+    if script.rings {
+        ring_writes::any(script, random);
+    }
     mild::enter(script, random);
     for number in 1..random.between(2, 20) {
         script.ask();

@@ -47,6 +47,15 @@ pub fn episode(script: &mut Script, random: &mut Random, costs: &mut Costs) {
     }
 }
 
+/// Rings written on any axes.
+pub fn any(script: &mut Script, random: &mut Random) {
+    for axis in 1..=8 {
+        if random.one_in(2) {
+            script.write([RING, axis, u64::from(!random.one_in(5))]);
+        }
+    }
+}
+
 /// Puts back all limits and rings.
 fn put_back(script: &mut Script, before: &State) {
     let all = (1..=8).flat_map(|axis| [[LO, axis, 0], [HI, axis, 0], [RING, axis, 0]]);
