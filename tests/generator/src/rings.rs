@@ -15,7 +15,7 @@ const MAKERS: [Maker; 13] = [
 /// Turns one axis of an opening, some or all into rings, most of them with a record of another kind; of those past n any.
 pub fn turn(random: &mut Random, opening: &mut Opening) {
     let n = opening.n.min(8);
-    // A sum of 1, 2, 4 equal numbers is not rounded.
+    // The mean of 1, 2 or 4 equal numbers is that number.
     if ![1, 2, 4].contains(&n) && random.one_in(4) {
         return all_beside_their_mean(random, opening);
     }
