@@ -1,13 +1,13 @@
-// The arithmetic of one axis: the clamp, and the form of every move.
+// The arithmetic of one axis: the clamp, the turn of a ring, and the form of every move.
 ghost use Rattle.std.specs.Prelude.{◌≡◌};
-ghost use Rattle.rules.specs.Binary64.{clamp, clamp_changes};
-ghost use Rattle.rules.specs.Trial.{move};
+ghost use Rattle.rules.specs.Binary64.{clamp, brought_round};
+ghost use Rattle.rules.specs.Trial.{move, brought_in, at_stop};
 
 use rules::Axis;
 
 // v within the limits: a NaN and whatever is below lo become lo, whatever is above hi becomes hi. It is written out since document 01
 // gives its two tests, and the library's clamp keeps a NaN.
-pub(super) fn clamp(x: &Axis, v: f64) -> f64
+fn clamp(x: &Axis, v: f64) -> f64
     ensures { result ≡ clamp x.now.lo x.now.hi v }
 {
     if x.lo <= v {
@@ -17,11 +17,34 @@ pub(super) fn clamp(x: &Axis, v: f64) -> f64
     }
 }
 
-// Whether that changes v.
-pub(super) fn clamp_changes(x: &Axis, v: f64) -> bool
-    ensures { result ≡ clamp_changes x.now.lo x.now.hi v }
+// v by one turn, where it is not from lo to below hi; lo where that does not bring it there.
+fn brought_round(x: &Axis, v: f64) -> f64
+    ensures { result ≡ brought_round x.now.lo x.now.hi v }
 {
-    !(x.lo <= v && v <= x.hi)
+    let u = if x.lo <= v {
+        if v < x.hi { v } else { v - (x.hi - x.lo) }
+    } else {
+        v + (x.hi - x.lo)
+    };
+    if x.lo <= u && u < x.hi { u } else { x.lo }
+}
+
+// v within the limits: clamped, on a ring brought round.
+pub(super) fn brought_in(x: &Axis, v: f64) -> f64
+    ensures { result ≡ brought_in x.now v }
+{
+    if x.ring {
+        brought_round(x, v)
+    } else {
+        clamp(x, v)
+    }
+}
+
+// Whether the clamp changes v; a ring has no stops.
+pub(super) fn at_stop(x: &Axis, v: f64) -> bool
+    ensures { result ≡ at_stop x.now v }
+{
+    !x.ring && !(x.lo <= v && v <= x.hi)
 }
 
 // from + k * (to - back), the form of every move.

@@ -26,7 +26,7 @@ ghost use Rattle.rules.specs.Refusals.{number_of, axis_of};
 ghost use Rattle.rules.specs.Opening.{opening};
 ghost use Rattle.rules.specs.Calls.{asking, telling, showing};
 
-// Opens a search. Where one of the refusals 1 to 7 is the verdict, the search is the closed one.
+// Opens a search. Where it is refused, the search is the closed one.
 #[tactic(auto, unfolding(rules::specs::Opening::opening))]
 pub fn open_search(given: &Opening) -> Opened
     ensures { result ≡ opening given.now.n given.now.axes given.now.rule given.now.coefficients given.now.budget }
@@ -93,15 +93,19 @@ pub fn refusal_number(refusal: Refusal) -> u64
         Refusal::WrongNumber => 10,
         Refusal::NoReading => 11,
         Refusal::Damaged => 12,
+        Refusal::RingAtHi(_) => 13,
     }
 }
 
-// The axis that comes with refusals 2 to 4, counted from 1.
+// The axis that comes with refusals 2 to 4 and 13, counted from 1.
 pub fn refusal_axis(refusal: Refusal) -> Option<usize>
     ensures { result ≡ axis_of refusal }
 {
     match refusal {
-        Refusal::OutOfRange(axis) | Refusal::BadLimits(axis) | Refusal::BadStep(axis) => Some(axis),
+        Refusal::OutOfRange(axis)
+        | Refusal::BadLimits(axis)
+        | Refusal::BadStep(axis)
+        | Refusal::RingAtHi(axis) => Some(axis),
         _ => None,
     }
 }

@@ -1,6 +1,6 @@
-// The opening: its refusals 1 to 7 in table order, and the search that it gives, open or closed.
+// The opening: its refusals, 1 to 7 and 13, in their order, and the search that it gives, open or closed.
 ghost use Rattle.std.specs.Prelude.{◌≡◌, map, ◌≤◌};
-ghost use Rattle.rules.specs.Opening.{in_range, all_in_range, in_limits, in_step, axis_checks, axes_checks, in_coefficients, in_threshold, rule_of, open_verdict, start_of, keep, fresh, unread, closed};
+ghost use Rattle.rules.specs.Opening.{in_range, all_in_range, in_limits, in_ring, in_step, axis_checks, axes_checks, in_coefficients, in_threshold, rule_of, open_verdict, start_of, keep, fresh, unread, closed};
 
 use super::place::blank;
 use rules::{
@@ -29,6 +29,13 @@ fn in_limits(x: Axis) -> bool
     x.lo < x.hi && x.lo <= x.start && x.start <= x.hi && 0.0 < x.step
 }
 
+// Whether an axis record passes check 13: a ring does not start at hi, which is the same position as lo.
+fn in_ring(x: Axis) -> bool
+    ensures { result ≡ in_ring x }
+{
+    !(x.ring && x.start == x.hi)
+}
+
 // Whether an axis record passes check 4: its step moves the start and is at most half the range.
 fn in_step(x: Axis) -> bool
     ensures { result ≡ in_step x }
@@ -36,7 +43,7 @@ fn in_step(x: Axis) -> bool
     !(x.start + x.step == x.start) && !((x.hi - x.lo) / 2.0 < x.step)
 }
 
-// Checks 2, 3 and 4 on the i-th axis, counted from 1.
+// Checks 2, 3, 13 and 4 on the i-th axis, counted from 1.
 fn axis_verdict(i: usize, x: Axis) -> Result<(), Refusal>
     ensures { result ≡ axis_checks i x (Ok tt) }
 {
@@ -46,13 +53,16 @@ fn axis_verdict(i: usize, x: Axis) -> Result<(), Refusal>
     if !in_limits(x) {
         return Err(Refusal::BadLimits(i));
     }
+    if !in_ring(x) {
+        return Err(Refusal::RingAtHi(i));
+    }
     if !in_step(x) {
         return Err(Refusal::BadStep(i));
     }
     Ok(())
 }
 
-// Checks 2, 3 and 4 on the first n axes, lowest axis first. By the index, which the refusal tells; n ≤ 8 is what `open_verdict`
+// Checks 2, 3, 13 and 4 on the first n axes, lowest axis first. By the index, which the refusal tells; n ≤ 8 is what `open_verdict`
 // has just tested, and no type holds it of an n that may be any.
 #[tactic(auto, using(crate::proofs::Laws::Checking::exit, crate::proofs::Laws::Opening::axes_first), unfolding(rules::specs::Opening::axes_checks))]
 fn axes_verdict(n: usize, axes: &[Axis; 8]) -> Result<(), Refusal>
@@ -97,7 +107,7 @@ fn rule_of(choice: Option<Rule>) -> Rule
     choice.unwrap_or(Rule::Spread(4))
 }
 
-// Checks 1 to 7, in table order.
+// Checks 1 to 7 and 13, in their order.
 #[tactic(auto, using(crate::proofs::Laws::Checking::exit, crate::proofs::Laws::Opening::opens, std::proofs::lemmas::Bool::Decides::nat_tests))]
 pub(super) fn open_verdict(given: &Opening) -> Result<(), Refusal>
     ensures { result ≡ open_verdict given.now.n given.now.axes given.now.rule given.now.coefficients given.now.budget }

@@ -1,4 +1,4 @@
-// Points: a step of a build and of a probe on one axis, before the clamp, and a point cut after n coordinates.
+// Points: a step of a build and of a probe on one axis, before it is brought into the axis, and a point cut after n coordinates.
 ghost use Rattle.std.specs.Prelude.{◌≡◌, ◌<◌};
 ghost use Rattle.rules.specs.Binary64.{0ᶠ};
 ghost use Rattle.rules.specs.Simplex.{first_of};
@@ -6,14 +6,15 @@ ghost use Rattle.rules.specs.Trial.{build_step, probe_step};
 
 use rules::Axis;
 
-// Trial i of a build from v on axis a: a step along its own axis, back where the step would pass hi; v itself on every other axis.
+// Trial i of a build from v on axis a: a step along its own axis, back where the step would pass hi and the axis is no ring; v itself on every
+// other axis.
 pub(super) fn build_step(x: &Axis, v: f64, i: usize, a: usize) -> f64
     requires { a < 8 }
     ensures { result ≡ build_step x.now v i a }
 {
     if i != a + 1 {
         v
-    } else if v + x.step <= x.hi {
+    } else if x.ring || v + x.step <= x.hi {
         v + x.step
     } else {
         v - x.step

@@ -1,25 +1,24 @@
 // The trial of each phase: one loop over the axes for each of them, so that no axis asks for the phase again, and the centroid once for all axes.
-// Each coordinate is clamped to its axis, and counted where that changes it. The loops write the trial in place, since one given back by each
+// Each coordinate is brought into its axis, and counted where the clamp changes it. The loops write the trial in place, since one given back by each
 // would be copied.
 ghost use Rattle.std.specs.Prelude.{◌≡◌, cond, ◌+◌, ◌≤◌, ◌<◌, set};
-ghost use Rattle.rules.specs.Binary64.{clamp, clamp_changes};
-ghost use Rattle.rules.specs.Trial.{centroid, toward_reflected, toward_worst, made, trial_in};
+ghost use Rattle.rules.specs.Trial.{brought_in, at_stop, centroid, toward_reflected, toward_worst, made, trial_in};
 ghost use Rattle.rules.specs.declared.Phase.TheVariants.{Building, Reflecting, Shrinking, Probing};
 ghost use Rattle.engine.specs.Places.{no_trial};
 ghost use Rattle.engine.specs.Ready.{Askable};
 
 use super::centroid::centroid;
-use super::float::{clamp, clamp_changes, moved_from};
+use super::float::{at_stop, brought_in, moved_from};
 use super::point::{build_step, probe_step};
 use rules::{Axis, Phase, Search, Side, Trial};
 
-// Puts the number v on axis a, the next of the trial: within the limits, and a stop where that changes it.
+// Puts the number v on axis a, the next of the trial: within the limits, and a stop where the clamp changes it.
 fn put(trial: &mut Trial, x: &Axis, a: usize, v: f64)
     requires { (a < 8) × (trial.old.stops ≤ a) }
-    ensures { trial.new ≡ record { point = set trial.old.point a (clamp x.now.lo x.now.hi v); stops = trial.old.stops + cond (clamp_changes x.now.lo x.now.hi v) 1 0 } }
+    ensures { trial.new ≡ record { point = set trial.old.point a (brought_in x.now v); stops = trial.old.stops + cond (at_stop x.now v) 1 0 } }
 {
-    trial.point[a] = clamp(x, v);
-    if clamp_changes(x, v) {
+    trial.point[a] = brought_in(x, v);
+    if at_stop(x, v) {
         trial.stops += 1;
     }
 }
@@ -54,14 +53,14 @@ fn reflected(s: &Search, out: &mut Trial)
     }
 }
 
-// k times as far from c as r, towards it, on axis a, c being the centroid's coordinate. Here r is clamped.
+// k times as far from c as r, towards it, on axis a, c being the centroid's coordinate. Here r is brought into its axis.
 fn toward_reflected(s: &Search, k: f64, c: f64, a: usize) -> f64
     requires { (s.now.setup.n ≤ 8) × (a < 8) × (c ≡ centroid s.now.setup.n s.now.standing.points a) }
     ensures { result ≡ toward_reflected s.now.setup s.now.standing.points k a }
 {
     let x = &s.setup.axes[a];
     let w = s.standing.points[8 * s.setup.n + a];
-    let r = clamp(x, moved_from(c, s.setup.coefficients.alpha, c, w));
+    let r = brought_in(x, moved_from(c, s.setup.coefficients.alpha, c, w));
     moved_from(c, k, r, c)
 }
 

@@ -1,5 +1,5 @@
-// Further cases: a restart, the budget in each phase, settled, and dark frames.
-use super::openings::search;
+// Further cases: a restart, the budget in each phase, settled, a ring, and dark frames.
+use super::openings::{opening, ring, search, with_second};
 use super::play::{play_each, repeat};
 use rules::{MAX_COST, Rule};
 use std::io;
@@ -52,6 +52,22 @@ fn settled(rt: &impl Print) -> io::Result<()> {
     play_each(rt, three, &[&[5, 5, 5]])
 }
 
+// Axis 2 is a ring from -8 to 8, started half a step below hi: the build steps over the seam, r and e go a turn round, and so does a probe
+// at lo.
+fn going_round(rt: &impl Print) -> io::Result<()> {
+    println!(rt; "a ring")?;
+    let near = with_second(opening(2, 0.0, 8.0, None, 100), ring(7.5, 8.0));
+    let s = engine::open_search(&near).search;
+    play_each(
+        rt,
+        s,
+        &[&[30, 20, 10, 5, 6], &[30, 20, 10, 25, 24], &[30, 20, 10, 35]],
+    )?;
+    let at_lo = with_second(opening(2, 0.0, 8.0, None, 100), ring(-8.0, 8.0));
+    let s = engine::open_search(&at_lo).search;
+    play_each(rt, s, &[&[10, 10, 10, 10, 10, 10, 9]])
+}
+
 // Dark frames for ever: with spread the search settles, and with a small size it shrinks and never folds.
 fn dark(rt: &impl Print, n: usize) -> io::Result<()> {
     println!(rt; "dark frames, axes {n}")?;
@@ -67,6 +83,7 @@ pub(super) fn all(rt: &impl Print) -> io::Result<()> {
     spent_early(rt)?;
     spent_late(rt)?;
     settled(rt)?;
+    going_round(rt)?;
     for n in [1, 2, 3, 8] {
         dark(rt, n)?;
     }

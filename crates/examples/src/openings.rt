@@ -1,4 +1,4 @@
-// The openings of the cases, over axes from -8 with step 1, and their searches.
+// The openings of the cases, over axes and rings from -8 with step 1, and their searches.
 use rules::{Axis, Opening, Rule, Search, USUAL};
 
 // An axis from -8 to hi, step 1.
@@ -8,6 +8,15 @@ pub(super) fn axis(start: f64, hi: f64) -> Axis {
         hi,
         start,
         step: 1.0,
+        ring: false,
+    }
+}
+
+// A ring from -8 to hi, step 1.
+pub(super) fn ring(start: f64, hi: f64) -> Axis {
+    Axis {
+        ring: true,
+        ..axis(start, hi)
     }
 }
 

@@ -1,5 +1,5 @@
 // Openings and later calls that are refused, for every number of the table.
-use super::openings::{axis, opening, paper_search, search, with_second};
+use super::openings::{axis, opening, paper_search, ring, search, with_second};
 use super::play::play;
 use super::show;
 use rules::{Coefficients, MAX_COST, Opening, Rule, Search, USUAL};
@@ -32,16 +32,19 @@ fn openings(rt: &impl Print) -> io::Result<()> {
     )
 }
 
-// Openings refused by checks 4 to 7.
+// Openings refused by checks 13 and 4 to 7.
 fn later_checks(rt: &impl Print) -> io::Result<()> {
     let good = opening(2, 0.0, 8.0, None, 100);
     let tight = opening(2, -8.0, -7.0, None, 100);
+    let seam = ring(-7.0, -7.0);
     let flat = Coefficients { chi: 1.0, ..USUAL };
     let zero = Some(Rule::Spread(0));
     show_each(
         rt,
         &[
-            with_second(tight, axis(0.0, 8.0)),
+            with_second(good, seam),
+            with_second(tight, seam),
+            with_second(Opening { n: 1, ..good }, seam),
             Opening {
                 coefficients: flat,
                 ..good

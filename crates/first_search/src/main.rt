@@ -16,6 +16,7 @@ fn opening() -> Opening {
         hi: 4.0,
         start: 0.0,
         step: 0.5,
+        ring: false,
     };
     Opening {
         n: 2,

@@ -31,6 +31,16 @@ pub(super) enum Part {
     StandingNumber(usize, u64),
     GatheredNumber(usize, u64),
     BestNumber(u64),
+    Ring(usize, bool),
+}
+
+// Whether an axis is a ring: 0 or 1.
+pub(super) fn ring_of(value: u64) -> Option<bool> {
+    match value {
+        0 => Some(false),
+        1 => Some(true),
+        _ => None,
+    }
 }
 
 // The rule that a number names, with the threshold that a word says.
@@ -106,6 +116,7 @@ pub(super) fn part_of(part: u64, which: u64, value: u64) -> Option<Part> {
         (11, _) => Some(Part::StandingNumber(place_of(which)?, value)),
         (12, _) => Some(Part::GatheredNumber(place_of(which)?, value)),
         (13, 0) => Some(Part::BestNumber(value)),
+        (14, _) => Some(Part::Ring(axis_of(which)?, ring_of(value)?)),
         _ => None,
     }
 }
@@ -155,5 +166,10 @@ pub(super) fn put(search: &mut Search, part: Part) {
         Part::StandingNumber(place, number) => put_at(&mut search.standing.numbers, place, number),
         Part::GatheredNumber(place, number) => put_at(&mut search.gathered.numbers, place, number),
         Part::BestNumber(number) => search.best.number = number,
+        Part::Ring(axis, ring) => {
+            if let Some(record) = search.setup.axes.get_mut(axis) {
+                record.ring = ring;
+            }
+        }
     }
 }

@@ -93,9 +93,11 @@ fn axis<W: fmt::Write>(f: &mut Formatter<W>, axis: &Axis) -> fmt::Result {
         hi,
         start,
         step,
+        ring,
     } = *axis;
     let numbers = [lo, hi, start, step];
-    write!(f, "{}", Words(&numbers.map(bits_of)))
+    let words = Words(&[u64::from(ring)]);
+    write!(f, "{}{words}", Words(&numbers.map(bits_of)))
 }
 
 // What the opening fixed, in the words of an `o` line.

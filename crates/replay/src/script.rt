@@ -27,8 +27,8 @@ fn word(field: &[u8]) -> Option<u64> {
     }
 }
 
-// The words that the fields of a line say, of which no line has more than forty.
-fn words(fields: &[u8]) -> Option<ArrayVec<u64, 40>> {
+// The words that the fields of a line say, of which no line has more than forty-eight.
+fn words(fields: &[u8]) -> Option<ArrayVec<u64, 48>> {
     let mut words = ArrayVec::new();
     for field in fields.chunks(17) {
         words.try_push(word(field)?).ok()?;
@@ -36,25 +36,35 @@ fn words(fields: &[u8]) -> Option<ArrayVec<u64, 40>> {
     Some(words)
 }
 
-// The axis record that four words say. `tune_text` has the same of four fields: neither crate may use the other, `rules` has no function,
-// and `numerals` knows no axis.
-fn axis_of([lo, hi, start, step]: [u64; 4]) -> Axis {
-    Axis {
+// The axis record that five words say, if the last says whether it is a ring.
+fn axis_of([lo, hi, start, step, ring]: [u64; 5]) -> Option<Axis> {
+    Some(Axis {
         lo: float_of(lo),
         hi: float_of(hi),
         start: float_of(start),
         step: float_of(step),
-    }
+        ring: parts::ring_of(ring)?,
+    })
 }
 
-// The opening that forty words say, if they name a rule or none.
+// The eight axis records that these words say, five for each.
+fn axes_of(words: &[u64]) -> Option<[Axis; 8]> {
+    let (records, []) = words.as_chunks() else {
+        return None;
+    };
+    let records: [[u64; 5]; 8] = *records.as_array()?;
+    let mut axes = [Axis::default(); 8];
+    for (axis, record) in axes.iter_mut().zip(records) {
+        *axis = axis_of(record)?;
+    }
+    Some(axes)
+}
+
+// The opening that forty-eight words say, if they name a rule or none.
 fn opening_of(words: &[u64]) -> Option<Opening> {
     let (first, records) = words.split_first_chunk::<8>()?;
     let [n, kind, threshold, alpha, chi, beta, sigma, budget] = *first;
-    let (records, []) = records.as_chunks() else {
-        return None;
-    };
-    let axes: [Axis; 8] = (*records.as_array()?).map(axis_of);
+    let axes = axes_of(records)?;
     let rule = match kind {
         0 => None,
         _ => Some(parts::rule_of(kind, threshold)?),

@@ -43,6 +43,7 @@ pub(super) fn opening(n: usize) -> Opening {
         hi: 8.0,
         start: 0.0,
         step: 1.0,
+        ring: false,
     };
     Opening {
         n,

@@ -20,7 +20,7 @@ use Rattle.rules.specs.Opening.{opening, fresh}
 use Rattle.rules.specs.Accept.{gathered_of}
 use Rattle.rules.specs.Calls.{standing_of, undamaged, ask_verdict, tell_verdict, best_verdict, asking, telling, showing, told_by}
 use Rattle.rules.specs.History.{Call, tell, Event, told, after1, after, run, costs_in, joins, history1, history_from, history, reading}
-use Rattle.rules.specs.Claims.{IsRead, IsBest, Within, StopsOf, Claims}
+use Rattle.rules.specs.Claims.{IsRead, IsBest, within, Within, StopsOf, Claims}
 use Rattle.rules.specs.declared.Rule.{Rule}
 use Rattle.rules.specs.declared.Axis.{Axis}
 use Rattle.rules.specs.declared.Coefficients.{Coefficients}
@@ -149,17 +149,17 @@ module _ (n : ℕ) (axes : List Axis) (rule : Option Rule) (coefficients : Coeff
   pub tell_exactly : (cs : List Call) (k c : ℕ) → ((telling (reached cs) k c).verdict ≡ Ok tt) ↔ (joins opened_search (accepted_history cs) k c ≡ true)
   tell_exactly cs = (claims cs).accepts
 
-  -- ---- the controller: every trial lies within the limits that the opening gave
+  -- ---- the controller: every trial lies within the limits that the opening gave: lo ≤ v ≤ hi on each axis, and lo ≤ v < hi on a ring
 
   abbrev pub Permitted : List Float → Type 0
-  Permitted x = (a : ℕ) → a < n → (((get_or axes a no_axis).lo ≤ᶠ get_or x a nan) ≡ true) × ((get_or x a nan ≤ᶠ (get_or axes a no_axis).hi) ≡ true)
+  Permitted x = (a : ℕ) → a < n → within (get_or axes a no_axis) (get_or x a nan) ≡ true
 
   permitted : (x : List Float) → Within opened_search.setup x → Permitted x
   unfolding fresh
   permitted x w a l =
       let given : Within (fresh n axes rule coefficients budget).setup x = subst (λ (t : Setup). Within t x) setup_given w in
       let e = opened_axis n axes rule coefficients budget (opened_verdict n axes rule coefficients budget accepted) a l in
-      subst (λ (y : Axis). ((y.lo ≤ᶠ get_or x a nan) ≡ true) × ((get_or x a nan ≤ᶠ y.hi) ≡ true)) e (given a l)
+      subst (λ (y : Axis). within y (get_or x a nan) ≡ true) e (given a l)
 
   pub controller_asked : (cs : List Call) → is_ended (reached cs).phase ≡ false → (a : Asked) × (asking (reached cs) ≡ Ok a) × Permitted a.trial.point
   controller_asked cs e =

@@ -4,6 +4,8 @@ pub mod Lists
 pub mod Order
 pub mod Places
 pub mod Clamp
+pub mod Ring
+pub mod Axes
 pub mod Stopped
 pub mod Openings
 pub mod Refusing

@@ -1,6 +1,6 @@
 -- Further worked cases, each by hand from sentences of document 01 that P1 to P12 do not reach: what the rules give beside what
 -- the sentence says.
-use Rattle.std.specs.Prelude.{List, [], ◌∷◌, ℕ, replicate, Float, Option, Some, None, Ok}
+use Rattle.std.specs.Prelude.{false, List, [], ◌∷◌, ℕ, replicate, Float, Option, Some, None, Ok}
 use Rattle.std.specs.Float.{binary64}
 use Rattle.std.specs.Float.Ieee.{of_bits, neg}
 use Rattle.rules.specs.Refusals.{Verdict}
@@ -19,7 +19,7 @@ bits = of_bits binary64
 
 -- an axis from −8 to hi with step 1
 abbrev pub case_axis : Float → Float → Axis
-case_axis start hi = record { lo = neg 8ᶠ; hi = hi; start = start; step = 1ᶠ }
+case_axis start hi = record { lo = neg 8ᶠ; hi = hi; start = start; step = 1ᶠ; ring = false }
 
 -- two axis records, and zeros after them
 abbrev pub two_axes : Axis → Axis → List Axis

@@ -1,9 +1,9 @@
 -- Demand 3: the claim about every list of calls on a newly opened search, stated whole.
-use Rattle.std.specs.Prelude.{◌≡◌, ◌↔◌, true, false, cond, ◌&&◌, ℕ, ◌+◌, ◌-◌, ◌*◌, ◌<◌, ◌≤◌, length, get_or, take, eqb, Float, Ok}
+use Rattle.std.specs.Prelude.{◌≡◌, ◌↔◌, Bool, true, false, cond, ◌&&◌, ℕ, ◌+◌, ◌-◌, ◌*◌, ◌<◌, ◌≤◌, length, get_or, take, eqb, Float, Ok}
 use mathlib.Core.List.{List, [], ◌∷◌, ◌++◌, map, Memᴰ}
 use mathlib.Core.Logic.{◌⊎◌}
 use Rattle.std.specs.Float.{nan}
-use Rattle.rules.specs.Binary64.{◌≤ᶠ◌}
+use Rattle.rules.specs.Binary64.{brought_round, ◌≤ᶠ◌, ◌<ᶠ◌}
 use Rattle.rules.specs.Simplex.{blank, cost_of, place, Ordered}
 use Rattle.rules.specs.Trial.{axis, target, trial}
 use Rattle.rules.specs.Stop.{total}
@@ -21,6 +21,7 @@ use Rattle.rules.specs.declared.Vertex.{Vertex}
 use Rattle.rules.specs.declared.Simplex.{Simplex}
 use Rattle.rules.specs.declared.Trial.{Trial}
 use Rattle.rules.specs.declared.Asked.{Asked}
+use Rattle.rules.specs.declared.Axis.{Axis}
 use Rattle.rules.specs.declared.Setup.{Setup}
 use Rattle.rules.specs.declared.Search.{Search}
 
@@ -39,9 +40,13 @@ pub record IsBest (o : Search) (h : List Event) (v : Vertex) : Type 0 where
   pub read : IsRead o h v
   pub least : EarliestLeast (costs_in h) (v.number - 1)
 
--- the point x lies within the limits of each axis, by the clamp's own comparisons
+-- v is a position of the axis x, by the clamp's own comparisons: lo ≤ v ≤ hi; on a ring "lo ≤ v < hi"
+abbrev pub within : Axis → Float → Bool
+within x v = (x.lo ≤ᶠ v) && cond x.ring (v <ᶠ x.hi) (v ≤ᶠ x.hi)
+
+-- the point x lies within the limits of each axis
 abbrev pub Within : Setup → List Float → Type 0
-Within t x = (a : ℕ) → a < t.n → (((axis t a).lo ≤ᶠ get_or x a nan) ≡ true) × ((get_or x a nan ≤ᶠ (axis t a).hi) ≡ true)
+Within t x = (a : ℕ) → a < t.n → within (axis t a) (get_or x a nan) ≡ true
 
 -- the stops of the trial x count these axes, f being its numbers before the clamp: "every trial carries how many axes were so changed"
 pub record StopsOf (t : Setup) (f : ℕ → Float) (x : Trial) : Type 0 where
@@ -50,11 +55,13 @@ pub record StopsOf (t : Setup) (f : ℕ → Float) (x : Trial) : Type 0 where
   pub many : x.stops ≡ length axes
   pub rising : (i j : ℕ) → i < j → j < length axes → get_or axes i 0 < get_or axes j 0
   pub at_most_n : x.stops ≤ t.n
-  -- an axis counts exactly where its number fails lo ≤ v or v ≤ hi
-  pub outside : (a : ℕ) → Memᴰ a axes ↔ ((a < t.n) × ((((axis t a).lo ≤ᶠ f a) && (f a ≤ᶠ (axis t a).hi)) ≡ false))
-  -- exactly there its coordinate is another number, and stands on a limit; elsewhere it has the number's bits
+  -- an axis that is no ring counts exactly where its number fails lo ≤ v or v ≤ hi; a ring never does
+  pub outside : (a : ℕ) → Memᴰ a axes ↔ ((a < t.n) × ((axis t a).ring ≡ false) × (within (axis t a) (f a) ≡ false))
+  -- there its coordinate is another number, and stands on a limit; a number that lies within has its bits kept, on any axis; a ring's is brought
+  -- round
   pub moved : (a : ℕ) → Memᴰ a axes → get_or x.point a nan ≡ f a → ⊥
-  pub kept : (a : ℕ) → a < t.n → (Memᴰ a axes → ⊥) → get_or x.point a nan ≡ f a
+  pub kept : (a : ℕ) → a < t.n → within (axis t a) (f a) ≡ true → get_or x.point a nan ≡ f a
+  pub round : (a : ℕ) → a < t.n → (axis t a).ring ≡ true → get_or x.point a nan ≡ brought_round (axis t a).lo (axis t a).hi (f a)
   pub on_limit : (a : ℕ) → Memᴰ a axes → (get_or x.point a nan ≡ (axis t a).lo) ⊎ (get_or x.point a nan ≡ (axis t a).hi)
 
 -- S: "adds the costs standing at that end", after the history h

@@ -1,6 +1,6 @@
 -- The opening's refusals, edge by edge, and the clamp: each number at the edge that the table gives it and at the next float or whole number, by
 -- bits and not by the names that the definitions use; and openings that are bad in two ways.
-use Rattle.std.specs.Prelude.{cond, List, [], ◌∷◌, ◌++◌, ℕ, replicate, Some, None, Ok, Err}
+use Rattle.std.specs.Prelude.{false, cond, List, [], ◌∷◌, ◌++◌, ℕ, replicate, Some, None, Ok, Err}
 use Rattle.std.specs.Float.{binary64, nan}
 use Rattle.std.specs.Float.Ieee.{to_bits}
 use Rattle.rules.specs.Binary64.{clamp, clamp_changes, clamp_changes}
@@ -30,7 +30,7 @@ bad_coefficients = coefficients_at 0x3ff0_0000_0000_0000 0x3ff0_0000_0000_0000 0
 
 -- an axis record of NaNs
 abbrev pub nan_axis : Axis
-nan_axis = record { lo = nan; hi = nan; start = nan; step = nan }
+nan_axis = record { lo = nan; hi = nan; start = nan; step = nan; ring = false }
 
 -- eight good records
 abbrev pub good : List Axis

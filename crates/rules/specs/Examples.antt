@@ -40,7 +40,7 @@ abbrev pub 1½ : ℕ
 
 -- "lo −8, hi 8, start 0, step 1", or another hi
 abbrev pub example_axis : Float → Axis
-example_axis hi = record { lo = neg 8ᶠ; hi = hi; start = 0ᶠ; step = 1ᶠ }
+example_axis hi = record { lo = neg 8ᶠ; hi = hi; start = 0ᶠ; step = 1ᶠ; ring = false }
 
 -- the examples' search as opened, "spread 4, budget 100"
 abbrev pub example_search : Float → Search

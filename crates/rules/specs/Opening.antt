@@ -1,5 +1,5 @@
 -- "Refused calls", the rows of the opening: its checks in table order, and the search that it gives.
-use Rattle.std.specs.Prelude.{Bool, not, ◌&&◌, List, [], map, ℕ, zero, suc, ◌+◌, get_or, replicate, leb, Float, Option, Some, None, Ok, Err}
+use Rattle.std.specs.Prelude.{Bool, false, not, ◌&&◌, List, [], map, ℕ, zero, suc, ◌+◌, get_or, replicate, leb, Float, Option, Some, None, Ok, Err}
 use Rattle.std.specs.Float.Ieee.{neg, eq}
 use Rattle.rules.specs.Binary64.{0ᶠ, 1ᶠ, 2ᶠ, 4ᶠ, 8ᶠ, farthest, ◌⊕◌, ◌⊖◌, ◌⊘◌, ◌≤ᶠ◌, ◌<ᶠ◌}
 use Rattle.rules.specs.Simplex.{first_of, pack, blank}
@@ -17,7 +17,7 @@ use Rattle.rules.specs.declared.Phase.TheVariants.{Building, Ended}
 use Rattle.rules.specs.declared.Cause.TheVariants.{Budget}
 use Rattle.rules.specs.declared.Search.{Search}
 use Rattle.rules.specs.declared.Opened.{Opened}
-use Rattle.rules.specs.declared.Refusal.TheVariants.{AxisCount, OutOfRange, BadLimits, BadStep, BadCoefficient, BadThreshold, BadBudget}
+use Rattle.rules.specs.declared.Refusal.TheVariants.{AxisCount, OutOfRange, BadLimits, BadStep, BadCoefficient, BadThreshold, BadBudget, RingAtHi}
 
 -- refusal 2: "fails −1,048,576 ≤ v ≤ 1,048,576 (so NaN too)"
 abbrev pub in_range : Float → Bool
@@ -31,13 +31,17 @@ all_in_range x = in_range x.lo && in_range x.hi && in_range x.start && in_range 
 abbrev pub in_limits : Axis → Bool
 in_limits x = (x.lo <ᶠ x.hi) && (x.lo ≤ᶠ x.start) && (x.start ≤ᶠ x.hi) && (0ᶠ <ᶠ x.step)
 
+-- not refusal 13: a "ring axis starts at hi"
+abbrev pub in_ring : Axis → Bool
+in_ring x = not (x.ring && eq x.start x.hi)
+
 -- not refusal 4: "start + step equals start, or step > (hi − lo)/2"
 abbrev pub in_step : Axis → Bool
 in_step x = not (eq (x.start ⊕ x.step) x.start) && not ((x.hi ⊖ x.lo) ⊘ 2ᶠ <ᶠ x.step)
 
--- refusals 2, 3 and 4 "tried on each" axis; i counts the axes from 1
+-- refusals 2, 3, 13, "tried just after 3", and 4 "tried on each" axis; i counts the axes from 1
 abbrev pub axis_checks : ℕ → Axis → Verdict → Verdict
-axis_checks i x v = check (all_in_range x) (OutOfRange i) (check (in_limits x) (BadLimits i) (check (in_step x) (BadStep i) v))
+axis_checks i x v = check (all_in_range x) (OutOfRange i) (check (in_limits x) (BadLimits i) (check (in_ring x) (RingAtHi i) (check (in_step x) (BadStep i) v)))
 
 -- "lowest axis first": k axes, from the i-th, counted from 0, on
 unfoldable pub axes_checks : ℕ → ℕ → List Axis → Verdict → Verdict
@@ -62,7 +66,7 @@ abbrev pub rule_of : Option Rule → Rule
 rule_of None = Spread 4
 rule_of (Some r) = r
 
--- the opening's refusals, 1 to 7, in table order
+-- the opening's refusals, 1 to 7 and 13, in the order of the checks
 unfoldable pub open_verdict : ℕ → List Axis → Option Rule → Coefficients → ℕ → Verdict
 open_verdict n axes rule c budget =
     check (leb 1 n && leb n 8) AxisCount
@@ -71,9 +75,9 @@ open_verdict n axes rule c budget =
     (check (in_threshold (rule_of rule)) BadThreshold
     (check (leb (n + 1) budget && leb budget max_budget) BadBudget (Ok tt)))))
 
--- an axis record of zeros
+-- an axis record of zeros, no ring
 abbrev pub zero_axis : Axis
-zero_axis = record { lo = 0ᶠ; hi = 0ᶠ; start = 0ᶠ; step = 0ᶠ }
+zero_axis = record { lo = 0ᶠ; hi = 0ᶠ; start = 0ᶠ; step = 0ᶠ; ring = false }
 
 -- a search with no reading, whose build goes around x
 abbrev pub unread : Setup → Phase → List Float → Search

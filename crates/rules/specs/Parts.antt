@@ -1,5 +1,5 @@
 -- What a search carries, part by part, at moments of the worked searches: a number that is written in another's place shows.
-use Rattle.std.specs.Prelude.{List, [], ◌∷◌, ◌++◌, map, ℕ, length, take, replicate}
+use Rattle.std.specs.Prelude.{false, List, [], ◌∷◌, ◌++◌, map, ℕ, length, take, replicate}
 use Rattle.std.specs.Float.{binary64}
 use Rattle.std.specs.Float.Ieee.{to_bits}
 use Rattle.rules.specs.Binary64.{0ᶠ}
@@ -177,7 +177,7 @@ closed_stated =
       setup =
           record {
             n = 0;
-            axes = replicate 8 (record { lo = bits 0; hi = bits 0; start = bits 0; step = bits 0 });
+            axes = replicate 8 (record { lo = bits 0; hi = bits 0; start = bits 0; step = bits 0; ring = false });
             coefficients = record { alpha = bits 0; chi = bits 0; beta = bits 0; sigma = bits 0 };
             rule = Spread 0;
             budget = 0;

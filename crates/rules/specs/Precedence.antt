@@ -3,27 +3,28 @@
 use Rattle.std.specs.Prelude.{◌≡◌, true, false, ◌&&◌, List, ℕ, ◌+◌, ◌<◌, get_or, leb, eqb, Option}
 use Rattle.rules.specs.View.{is_ended}
 use Rattle.rules.specs.Trial.{no_axis}
-use Rattle.rules.specs.Opening.{all_in_range, in_limits, in_step, in_coefficients, in_threshold, rule_of}
+use Rattle.rules.specs.Opening.{all_in_range, in_limits, in_ring, in_step, in_coefficients, in_threshold, rule_of}
 use Rattle.rules.specs.Calls.{undamaged}
 use Rattle.rules.specs.declared.Axis.{Axis}
 use Rattle.rules.specs.declared.Coefficients.{Coefficients}
 use Rattle.rules.specs.declared.Rule.{Rule}
 use Rattle.rules.specs.declared.Search.{Search}
 use Rattle.rules.specs.declared.Refusal.{Refusal}
-use Rattle.rules.specs.declared.Refusal.TheVariants.{AxisCount, OutOfRange, BadLimits, BadStep, BadCoefficient, BadThreshold, BadBudget, SearchEnded, CostTooHigh, WrongNumber, NoReading, Damaged}
+use Rattle.rules.specs.declared.Refusal.TheVariants.{AxisCount, OutOfRange, BadLimits, BadStep, BadCoefficient, BadThreshold, BadBudget, SearchEnded, CostTooHigh, WrongNumber, NoReading, Damaged, RingAtHi}
 
--- an axis that passes 2, 3 and 4
+-- an axis that passes 2, 3, 13 and 4
 pub record Fits (x : Axis) : Type 0 where
   pub range : all_in_range x ≡ true
   pub limits : in_limits x ≡ true
+  pub ring : in_ring x ≡ true
   pub step : in_step x ≡ true
 
--- 1 is passed, and so are 2 to 4 on the first k axes
+-- 1 is passed, and so are 2, 3, 13 and 4 on the first k axes
 pub record Fit (n k : ℕ) (axes : List Axis) : Type 0 where
   pub count : (leb 1 n && leb n 8) ≡ true
   pub each : (a : ℕ) → a < k → Fits (get_or axes a no_axis)
 
--- an opening refused with 2, 3 or 4 on axis i: the axes before it pass all three, and it passes those before
+-- an opening refused with 2, 3, 13 or 4 on axis i: the axes before it pass all four, and it passes those before
 pub record AxisRefused (n : ℕ) (axes : List Axis) (i : ℕ) (Own : Axis → Type 0) : Type 0 where
   pub axis : ℕ
   pub from_1 : i ≡ axis + 1
@@ -36,7 +37,8 @@ abbrev pub OpeningRefused : ℕ → List Axis → Option Rule → Coefficients �
 OpeningRefused n axes rule c budget AxisCount = (leb 1 n && leb n 8) ≡ false
 OpeningRefused n axes rule c budget (OutOfRange i) = AxisRefused n axes i (λ x. all_in_range x ≡ false)
 OpeningRefused n axes rule c budget (BadLimits i) = AxisRefused n axes i (λ x. (all_in_range x ≡ true) × (in_limits x ≡ false))
-OpeningRefused n axes rule c budget (BadStep i) = AxisRefused n axes i (λ x. (all_in_range x ≡ true) × (in_limits x ≡ true) × (in_step x ≡ false))
+OpeningRefused n axes rule c budget (RingAtHi i) = AxisRefused n axes i (λ x. (all_in_range x ≡ true) × (in_limits x ≡ true) × (in_ring x ≡ false))
+OpeningRefused n axes rule c budget (BadStep i) = AxisRefused n axes i (λ x. (all_in_range x ≡ true) × (in_limits x ≡ true) × (in_ring x ≡ true) × (in_step x ≡ false))
 OpeningRefused n axes rule c budget BadCoefficient = Fit n n axes × (in_coefficients c ≡ false)
 OpeningRefused n axes rule c budget BadThreshold = Fit n n axes × (in_coefficients c ≡ true) × (in_threshold (rule_of rule) ≡ false)
 OpeningRefused n axes rule c budget BadBudget =

@@ -1,7 +1,7 @@
 -- "Refused calls": what every call uses of the table, the number and the axis of each refusal and the order of the checks.
 use Rattle.std.specs.Prelude.{Bool, true, false, ℕ, Option, Some, None, Result, Ok, Err}
 use Rattle.rules.specs.declared.Refusal.{Refusal}
-use Rattle.rules.specs.declared.Refusal.TheVariants.{AxisCount, OutOfRange, BadLimits, BadStep, BadCoefficient, BadThreshold, BadBudget, SearchEnded, CostTooHigh, WrongNumber, NoReading, Damaged}
+use Rattle.rules.specs.declared.Refusal.TheVariants.{AxisCount, OutOfRange, BadLimits, BadStep, BadCoefficient, BadThreshold, BadBudget, SearchEnded, CostTooHigh, WrongNumber, NoReading, Damaged, RingAtHi}
 
 -- the column "number" of the table, for each refusal
 abbrev pub number_of : Refusal → ℕ
@@ -17,8 +17,9 @@ number_of CostTooHigh = 9
 number_of WrongNumber = 10
 number_of NoReading = 11
 number_of Damaged = 12
+number_of (RingAtHi axis) = 13
 
--- "Numbers 2 to 4 come with the axis, from 1"
+-- "Numbers 2 to 4 come with the axis, from 1", and "13 with its axis"
 abbrev pub axis_of : Refusal → Option ℕ
 axis_of AxisCount = None
 axis_of (OutOfRange axis) = Some axis
@@ -32,6 +33,7 @@ axis_of CostTooHigh = None
 axis_of WrongNumber = None
 axis_of NoReading = None
 axis_of Damaged = None
+axis_of (RingAtHi axis) = Some axis
 
 -- what the checks of a call come to: they pass, or one of them refuses
 abbrev pub Verdict : Type 0

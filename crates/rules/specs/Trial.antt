@@ -1,7 +1,7 @@
 -- "Build", "Iteration" and the probes of "Stopping, probe, restart": the trial that a search asks for next, its point and its stops, by its phase.
-use Rattle.std.specs.Prelude.{Bool, cond, List, ℕ, zero, suc, ◌+◌, ◌-◌, ◌*◌, ◌/◌, ◌%◌, get_or, eqb, Float}
+use Rattle.std.specs.Prelude.{Bool, false, cond, ◌||◌, List, ℕ, zero, suc, ◌+◌, ◌-◌, ◌*◌, ◌/◌, ◌%◌, get_or, eqb, Float}
 use Rattle.std.specs.Float.{nan}
-use Rattle.rules.specs.Binary64.{probe_factor, float, clamp, clamp_changes, ◌⊕◌, ◌⊖◌, ◌⊗◌, ◌⊘◌, ◌≤ᶠ◌}
+use Rattle.rules.specs.Binary64.{probe_factor, float, clamp, clamp_changes, brought_round, ◌⊕◌, ◌⊖◌, ◌⊗◌, ◌⊘◌, ◌≤ᶠ◌}
 use Rattle.rules.specs.Simplex.{point}
 use Rattle.rules.specs.declared.Axis.{Axis}
 use Rattle.rules.specs.declared.Setup.{Setup}
@@ -13,19 +13,27 @@ use Rattle.rules.specs.declared.Side.TheVariants.{Outside, Inside}
 
 -- what a read past the eighth record would give; no rule reads there
 abbrev pub no_axis : Axis
-no_axis = record { lo = nan; hi = nan; start = nan; step = nan }
+no_axis = record { lo = nan; hi = nan; start = nan; step = nan; ring = false }
 
 -- the record of axis a, counted from 0
 abbrev pub axis : Setup → ℕ → Axis
 axis t a = get_or t.axes a no_axis
 
+-- the one way of a number into an axis: it is clamped, "on a ring" it is brought round
+abbrev pub brought_in : Axis → Float → Float
+brought_in x v = cond x.ring (brought_round x.lo x.hi v) (clamp x.lo x.hi v)
+
+-- whether the clamp changes it there: "Being brought round never counts as standing at a stop"
+abbrev pub at_stop : Axis → Float → Bool
+at_stop x v = cond x.ring false (clamp_changes x.lo x.hi v)
+
 -- "Every trial is clamped axis by axis"
 abbrev pub clamped : Setup → ℕ → Float → Float
-clamped t a v = clamp (axis t a).lo (axis t a).hi v
+clamped t a v = brought_in (axis t a) v
 
--- whether that changes v on axis a
+-- whether v is stopped on axis a
 abbrev pub stopped : Setup → ℕ → Float → Bool
-stopped t a v = clamp_changes (axis t a).lo (axis t a).hi v
+stopped t a v = at_stop (axis t a) v
 
 -- coordinate a of the point at place i, both from 0: "vertex and axis giving the index"
 abbrev pub entry : List Float → ℕ → ℕ → Float
@@ -64,9 +72,9 @@ toward_worst t ps a = let c = centroid t.n ps a in move c t.coefficients.beta (e
 abbrev pub shrunk : Setup → List Float → ℕ → ℕ → Float
 shrunk t ps j a = move (entry ps a 0) t.coefficients.sigma (entry ps a j) (entry ps a 0)
 
--- "u = start + step; take u if u ≤ hi, else .. start − step", around the coordinate v
+-- "u = start + step; take u if u ≤ hi, else .. start − step", around the coordinate v; on a ring "always .. start + step"
 abbrev pub stepped : Axis → Float → Float
-stepped x v = cond (v ⊕ x.step ≤ᶠ x.hi) (v ⊕ x.step) (v ⊖ x.step)
+stepped x v = cond (x.ring || (v ⊕ x.step ≤ᶠ x.hi)) (v ⊕ x.step) (v ⊖ x.step)
 
 -- trial i of a build around a point with the coordinate v on axis a: "the start point, then for i = 1 to n that point with axis i changed"
 abbrev pub build_step : Axis → Float → ℕ → ℕ → Float

@@ -1,6 +1,6 @@
 -- Worked searches, trial by trial: no coefficient is the usual one and no two are equal, steps differ, and most numbers are inexact. Each is
 -- worked out from document 01's sentences alone; a slip in a move, a row, a build or a round gives other bits.
-use Rattle.std.specs.Prelude.{cond, List, [], ◌∷◌, map, ℕ, take, replicate, Some, None}
+use Rattle.std.specs.Prelude.{false, cond, List, [], ◌∷◌, map, ℕ, take, replicate, Some, None}
 use Rattle.std.specs.Float.{binary64}
 use Rattle.std.specs.Float.Ieee.{to_bits}
 use Rattle.rules.specs.View.{is_ended}
@@ -17,7 +17,7 @@ use Rattle.rules.specs.declared.Search.{Search}
 
 -- an axis record by the bits of its numbers
 abbrev pub axis_at : ℕ → ℕ → ℕ → ℕ → Axis
-axis_at lo hi start step = record { lo = bits lo; hi = bits hi; start = bits start; step = bits step }
+axis_at lo hi start step = record { lo = bits lo; hi = bits hi; start = bits start; step = bits step; ring = false }
 
 -- coefficients by their bits
 abbrev pub coefficients_at : ℕ → ℕ → ℕ → ℕ → Coefficients

@@ -20,13 +20,15 @@ pub const USUAL: Coefficients = Coefficients {
     sigma: 0.5,
 };
 
-// One axis record: its limits, the position where it starts, and the first step along it.
+// One axis record: its limits, the position where it starts, the first step along it, and whether it is a ring, whose hi is the same position
+// as its lo.
 #[derive(Clone, Copy, Default)]
 pub struct Axis {
     pub lo: f64,
     pub hi: f64,
     pub start: f64,
     pub step: f64,
+    pub ring: bool,
 }
 
 // The coefficients of reflection (alpha), expansion (chi), contraction (beta) and shrink (sigma).
@@ -224,6 +226,7 @@ pub enum Refusal {
     WrongNumber,
     NoReading,
     Damaged,
+    RingAtHi(usize),
 }
 
 // The answer of an opening: whether it is accepted, and the search, which is closed where it is not. Document 01 has a search in both,

@@ -6,12 +6,13 @@ use mathlib.Core.Bool.{Bool, true, false, true≢false, ◌&&◌}
 use mathlib.Core.List.{List, [], ◌∷◌, ◌++◌}
 use Prim.Native.Nat.{ℕ, zero, suc, ◌+◌, ◌≤◌}
 use native.Mathlib.Omega.{arith}
-use lib.ListN.{length, get_or}
+use lib.ListN.{length, get_or, set}
+use Rattle.std.proofs.lemmas.List.{places}
 use lib.Dec.{leb, ltb}
 use borrow.Author.Tests.{eq-eqb}
 use Rattle.rules.specs.Numbers.{max_cost, usual}
 use Rattle.rules.specs.Refusals.{Verdict, number_of, check}
-use Rattle.rules.specs.Opening.{all_in_range, in_limits, in_step, axes_checks, in_coefficients, in_threshold, open_verdict, opening}
+use Rattle.rules.specs.Opening.{all_in_range, in_limits, in_ring, in_step, zero_axis, axes_checks, in_coefficients, in_threshold, open_verdict, opening}
 use Rattle.rules.specs.Trial.{no_axis, trial}
 use Rattle.rules.specs.View.{is_ended}
 use Rattle.rules.specs.Calls.{undamaged, tell_verdict, asking, telling, showing}
@@ -23,7 +24,7 @@ use Rattle.rules.specs.declared.Vertex.{Vertex}
 use Rattle.rules.specs.declared.Rule.TheVariants.{Spread}
 use Rattle.rules.specs.declared.Search.{Search}
 use Rattle.rules.specs.declared.Refusal.{Refusal}
-use Rattle.rules.specs.declared.Refusal.TheVariants.{AxisCount, OutOfRange, BadLimits, BadStep, BadCoefficient, BadThreshold, BadBudget, CostTooHigh}
+use Rattle.rules.specs.declared.Refusal.TheVariants.{AxisCount, OutOfRange, BadLimits, BadStep, BadCoefficient, BadThreshold, BadBudget, RingAtHi, CostTooHigh}
 use Rattle.rules.proofs.Examples.{floats}
 use Rattle.rules.proofs.Laws.Openings.{opened_by_verdict}
 use Rattle.std.proofs.lemmas.Bool.{cond_both}
@@ -45,70 +46,95 @@ use Rattle.tune_text.proofs.Laws.Running.{step_cases}
 
 -- ---- the steps
 
--- what is read so far: where costs are read, the search is one that an accepted opening and calls have made
-abbrev Kept : Progress → Type 0
-Kept p = p.stage ≡ Costs → Carried p
+-- no axis that is read is a ring
+abbrev pub NoRing : Request → Type 0
+NoRing q = (a : ℕ) → (get_or q.axes a no_axis).ring ≡ false
+
+-- what is read so far: no ring; and where costs are read, the search is one that an accepted opening and calls have made
+record Kept (p : Progress) : Type 0 where
+  rings : NoRing p.request
+  made : p.stage ≡ Costs → Carried p
 
 -- no costs are read once all is done
-done_kept : (q : Request) (s : Search) → Kept (record { stage = Done; request = q; search = s })
-done_kept q s e = let none : ⊥ = cc in absurd none
+done_kept : (q : Request) (s : Search) → NoRing q → Kept (record { stage = Done; request = q; search = s })
+done_kept q s n = record { rings = n; made = λ e. let none : ⊥ = cc in absurd none }
 
 -- no costs are read where an axis line follows
-axes_kept : (k : ℕ) (q : Request) (s : Search) → Kept (record { stage = Axes k; request = q; search = s })
-axes_kept k q s e = let none : ⊥ = cc in absurd none
+axes_kept : (k : ℕ) (q : Request) (s : Search) → NoRing q → Kept (record { stage = Axes k; request = q; search = s })
+axes_kept k q s n = record { rings = n; made = λ e. let none : ⊥ = cc in absurd none }
 
 -- the opening makes its search by no call
-opening_turn_kept : (q : Request) → Kept (opening_turn q).progress
+opening_turn_kept : (q : Request) → NoRing q → Kept (opening_turn q).progress
 unfolding after
-opening_turn_kept q = go (opening_of q).verdict refl
+opening_turn_kept q n = go (opening_of q).verdict refl
   where
     go : (v : Verdict) → (opening_of q).verdict ≡ v → Kept (turn_opened v q (opening_of q).search).progress
-    go (Ok _) e c = record { accepted = e; calls = []; made = refl }
-    go (Err r) e c = done_kept q (opening_of q).search c
+    go (Ok _) e = record { rings = n; made = λ c. record { accepted = e; calls = []; made = refl } }
+    go (Err r) e = done_kept q (opening_of q).search n
 
 -- `Kept` holds after k axis lines, where the next axis line follows or the opening
-axes_read_kept : (k : ℕ) (q : Request) (s : Search) → Kept (axes_read k q s).progress
+axes_read_kept : (k : ℕ) (q : Request) (s : Search) → NoRing q → Kept (axes_read k q s).progress
 unfolding axes_read
-axes_read_kept k q s =
-    cond_both (ltb k (axis_lines q.n)) _ _ (λ (t : Turned). Kept t.progress) (λ e. axes_kept k q s) (λ e. opening_turn_kept q)
+axes_read_kept k q s n =
+    cond_both (ltb k (axis_lines q.n)) _ _ (λ (t : Turned). Kept t.progress) (λ e. axes_kept k q s n) (λ e. opening_turn_kept q n)
+
+-- the first line names no ring
+head_rings : (vs : List ℕ) → NoRing (request_of vs)
+head_rings vs a = grind (arith, places)
+
+-- one axis that is no ring, put among such
+set_rings : (xs : List Axis) (k a : ℕ) (x : Axis) → x.ring ≡ false → ((b : ℕ) → (get_or xs b no_axis).ring ≡ false) → (get_or (set xs k x) a no_axis).ring ≡ false
+set_rings [] k a x e n = refl
+set_rings (y ∷ ys) zero zero x e n = e
+set_rings (y ∷ ys) zero (suc a) x e n = n (suc a)
+set_rings (y ∷ ys) (suc k) zero x e n = n 0
+set_rings (y ∷ ys) (suc k) (suc a) x e n = set_rings ys k a x e (λ b. n (suc b))
+
+-- an axis line adds none
+axis_rings : (k : ℕ) (vs : List ℕ) (q : Request) → NoRing q → NoRing (with_axis k (axis_from vs) q)
+axis_rings k vs q n a = set_rings q.axes k a (axis_from vs) refl n
 
 -- a cost line is one call more
-told_kept : (p : Progress) (cost : ℕ) → Carried p → Kept (cost_told p cost).progress
+told_kept : (p : Progress) (cost : ℕ) → NoRing p.request → Carried p → Kept (cost_told p cost).progress
 unfolding cost_told
-told_kept p cost c = go (asking p.search)
+told_kept p cost n c = go (asking p.search)
   where
     told : (a : Asked) (v : Verdict) → (telling p.search a.number cost).verdict ≡ v → Kept (turn_told v p a (telling p.search a.number cost).search cost).progress
-    told a (Ok _) d e =
+    told a (Ok _) d =
         let call = tell a.number cost in
         record {
-          accepted = c.accepted;
-          calls = c.calls ++ call ∷ [];
-          made = ap (λ (s : Search). after1 s call) c.made ∙ sym (after_snoc (opening_of p.request).search c.calls call);
+          rings = n;
+          made = λ e. record {
+            accepted = c.accepted;
+            calls = c.calls ++ call ∷ [];
+            made = ap (λ (s : Search). after1 s call) c.made ∙ sym (after_snoc (opening_of p.request).search c.calls call);
+          };
         }
-    told a (Err r) d e = done_kept p.request p.search e
+    told a (Err r) d = done_kept p.request p.search n
 
     go : (r : Result Asked Refusal) → Kept (turn_asked r p cost).progress
-    go (Ok a) e = told a (telling p.search a.number cost).verdict refl e
-    go (Err r) e = done_kept p.request p.search e
+    go (Ok a) = told a (telling p.search a.number cost).verdict refl
+    go (Err r) = done_kept p.request p.search n
 
 -- `Kept` holds after a line where it held before, by the stage
 line_kept : (stage : Stage) (p : Progress) (i : ℕ) (line : List ℕ) → p.stage ≡ stage → Kept p → Kept (line_read stage p i line).progress
 unfolding line_read
 line_kept Head p i line e h =
     cond_both (is_line whole_number 3 line) _ _ (λ (t : Turned). Kept t.progress)
-    (λ w. axes_read_kept 0 (request_of (values whole_number line)) p.search) (λ w. done_kept p.request p.search)
+    (λ w. axes_read_kept 0 (request_of (values whole_number line)) p.search (head_rings (values whole_number line))) (λ w. done_kept p.request p.search h.rings)
 line_kept (Axes k) p i line e h =
     cond_both (is_line hexadecimal 4 line) _ _ (λ (t : Turned). Kept t.progress)
-    (λ w. axes_read_kept (suc k) (with_axis k (axis_from (values hexadecimal line)) p.request) p.search) (λ w. done_kept p.request p.search)
+    (λ w. axes_read_kept (suc k) (with_axis k (axis_from (values hexadecimal line)) p.request) p.search (axis_rings k (values hexadecimal line) p.request h.rings))
+    (λ w. done_kept p.request p.search h.rings)
 line_kept Costs p i line e h =
     cond_both (is_line whole_number 1 line) _ _ (λ (t : Turned). Kept t.progress)
-    (λ w. told_kept p (get_or (values whole_number line) 0 0) (h e)) (λ w. done_kept p.request p.search)
+    (λ w. told_kept p (get_or (values whole_number line) 0 0) h.rings (h.made e)) (λ w. done_kept p.request p.search h.rings)
 line_kept Done p i line e h = h
 
 -- `Kept` holds after a step where it held before
 step_kept : (bytes : List ℕ) (s : State) → Kept s.progress → Kept (stepping bytes s).state.progress
 step_kept bytes s h =
-    let last = done_kept s.progress.request s.progress.search in
+    let last = done_kept s.progress.request s.progress.search h.rings in
     step_cases bytes s (λ (r : Stepped). Kept r.state.progress)
     (λ d. h) (λ d l. last) (λ d l o. last) (λ d l o e. line_kept s.progress.stage s.progress s.line _ refl h) (λ d l o e. last)
 
@@ -118,10 +144,14 @@ unfolding state_after
 run_kept zero bytes s h = h
 run_kept (suc k) bytes s h = run_kept k bytes (stepping bytes s).state (step_kept bytes s h)
 
--- after any number of steps, where costs are read, an accepted opening and calls have made the search
-pub carried : (bytes : List ℕ) (k : ℕ) → (state_after k bytes first_state).progress.stage ≡ Costs → Carried (state_after k bytes first_state).progress
+-- `Kept` holds after any number of steps
+always_kept : (bytes : List ℕ) (k : ℕ) → Kept (state_after k bytes first_state).progress
 unfolding first_state nothing_read
-carried bytes k = run_kept k bytes first_state (λ e. let none : ⊥ = cc in absurd none)
+always_kept bytes k = run_kept k bytes first_state (record { rings = head_rings []; made = λ e. let none : ⊥ = cc in absurd none })
+
+-- where costs are read, an accepted opening and calls have made the search
+pub carried : (bytes : List ℕ) (k : ℕ) → (state_after k bytes first_state).progress.stage ≡ Costs → Carried (state_after k bytes first_state).progress
+carried bytes k = (always_kept bytes k).made
 
 -- ---- the search
 
@@ -189,31 +219,37 @@ AtOpening v = (r : Refusal) → v ≡ Err r → OfOpening r
 check_so : (b : Bool) (r : Refusal) {v : Verdict} → OfOpening r → AtOpening v → AtOpening (check b r v)
 check_so b r o h = check_elim AtOpening b (λ e. h) (λ e x q. let d : r ≡ x = cc in rw (← d) o)
 
--- the checks of k axes, before checks whose verdict is `AtOpening`, give a verdict that is `AtOpening`
-axes_so : (k i : ℕ) (xs : List Axis) (v : Verdict) → AtOpening v → AtOpening (axes_checks k i xs v)
+-- an axis that is no ring passes check 13
+no_ring : (x : Axis) → x.ring ≡ false → in_ring x ≡ true
+no_ring x e = rw e refl
+
+-- the checks of k axes, none of them a ring, before checks whose verdict is `AtOpening`, give a verdict that is `AtOpening`
+axes_so : (k i : ℕ) (xs : List Axis) (v : Verdict) → ((a : ℕ) → (get_or xs a no_axis).ring ≡ false) → AtOpening v → AtOpening (axes_checks k i xs v)
 unfolding axes_checks
-axes_so zero i xs v h = h
-axes_so (suc k) i xs v h =
+axes_so zero i xs v n h = h
+axes_so (suc k) i xs v n h =
     check_so (all_in_range (get_or xs i no_axis)) (OutOfRange (i + 1)) (omega arith, omega arith, λ e. omega arith)
     (check_so (in_limits (get_or xs i no_axis)) (BadLimits (i + 1)) (omega arith, omega arith, λ e. omega arith)
-    (check_so (in_step (get_or xs i no_axis)) (BadStep (i + 1)) (omega arith, omega arith, λ e. omega arith) (axes_so k (suc i) xs v h)))
+    (check_elim AtOpening (in_ring (get_or xs i no_axis)) {r = RingAtHi (i + 1)}
+    (λ e. check_so (in_step (get_or xs i no_axis)) (BadStep (i + 1)) (omega arith, omega arith, λ e. omega arith) (axes_so k (suc i) xs v n h))
+    (λ e. absurd (true≢false (sym (no_ring (get_or xs i no_axis) (n i)) ∙ e)))))
 
 -- the usual coefficients pass
 usual_pass : in_coefficients usual ≡ true
 unfolding floats
 usual_pass = refl
 
--- the opening that the lines ask for is refused only as 1, 2, 3, 4, 6 or 7
-pub opening_refusals : (q : Request) (r : Refusal) → (opening_of q).verdict ≡ Err r → OfOpening r
+-- an opening without rings that lines ask for is refused only as 1, 2, 3, 4, 6 or 7
+opening_so : (q : Request) → NoRing q → (r : Refusal) → (opening_of q).verdict ≡ Err r → OfOpening r
 unfolding opening open_verdict
-opening_refusals q =
+opening_so q n =
     let last : AtOpening (Ok tt) = λ r e. let none : ⊥ = cc in absurd none in
     let budget = check_so (leb (q.n + 1) q.budget && leb q.budget 1000000) BadBudget (omega arith, omega arith, λ e. omega arith) last in
     let threshold = check_so (in_threshold (Spread q.spread)) BadThreshold (omega arith, omega arith, λ e. omega arith) budget in
     let coefficients = check_elim AtOpening (in_coefficients usual) {r = BadCoefficient} (λ e. threshold) (λ e. absurd (true≢false (sym usual_pass ∙ e))) in
-    let axes = axes_so q.n 0 q.axes _ coefficients in
+    let axes = axes_so q.n 0 q.axes _ n coefficients in
     rw opened_by_verdict (check_so (leb 1 q.n && leb q.n 8) AxisCount (omega arith, omega arith, λ e. omega arith) axes)
 
--- the opening that the lines ask for is never refused as 5, for a coefficient
-pub no_coefficient : (q : Request) (r : Refusal) → (opening_of q).verdict ≡ Err r → number_of r ≡ 5 → ⊥
-no_coefficient q r e = (opening_refusals q r e).2
+-- so is the one that the lines of any input ask for, after any number of steps
+pub opening_refusals : (bytes : List ℕ) (k : ℕ) (r : Refusal) → (opening_of (state_after k bytes first_state).progress.request).verdict ≡ Err r → OfOpening r
+opening_refusals bytes k = opening_so (state_after k bytes first_state).progress.request (always_kept bytes k).rings

@@ -69,13 +69,14 @@ axes_read k q s =
 abbrev pub request_of : List ℕ → Request
 request_of vs = record { n = get_or vs 0 0; budget = get_or vs 1 0; spread = get_or vs 2 0; axes = replicate 8 zero_axis }
 
--- the numbers of an axis line: "lo, hi, start, step" by "their bits"
+-- the numbers of an axis line: "lo, hi, start, step" by "their bits"; "The program's axes are not rings"
 abbrev pub axis_from : List ℕ → Axis
 axis_from vs = record {
   lo = of_bits binary64 (get_or vs 0 0);
   hi = of_bits binary64 (get_or vs 1 0);
   start = of_bits binary64 (get_or vs 2 0);
   step = of_bits binary64 (get_or vs 3 0);
+  ring = false;
 }
 
 -- the request with its axis record k, from 0

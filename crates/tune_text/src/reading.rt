@@ -9,7 +9,7 @@ use crate::{Line, Progress, Request, Stage};
 use numerals::float_of;
 use rules::{Asked, Axis, Refusal, Vertex};
 
-// An axis record by its bits; `replay` has a twin, and says why.
+// An axis record by its bits, and no ring.
 fn axis_from(values: [u64; 4]) -> Axis
     ensures { result ≡ axis_from values }
 {
@@ -19,6 +19,7 @@ fn axis_from(values: [u64; 4]) -> Axis
         hi,
         start,
         step,
+        ring: false,
     }
 }
 

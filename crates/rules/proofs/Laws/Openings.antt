@@ -26,7 +26,7 @@ use Rattle.rules.specs.declared.Setup.{Setup}
 use Rattle.rules.specs.declared.Search.{Search}
 use Rattle.rules.specs.declared.Refusal.{Refusal}
 use Rattle.rules.proofs.Laws.Lists.{get_or_point}
-use Rattle.rules.proofs.Laws.Clamp.{lt_le, clamp_low, clamp_high}
+use Rattle.rules.proofs.Laws.Axes.{brought_within}
 use Rattle.rules.proofs.Laws.Stopped.{stops_of}
 
 -- ---- checks that pass
@@ -87,7 +87,7 @@ pub record Sane (t : Setup) : Type 0 where
   pub enough : t.n + 1 ≤ t.budget
   pub not_much : t.budget ≤ max_budget
   pub rule : sound_rule t.rule ≡ true
-  pub limits : (a : ℕ) → a < t.n → ((axis t a).lo ≤ᶠ (axis t a).hi) ≡ true
+  pub limits : (a : ℕ) → a < t.n → ((axis t a).lo <ᶠ (axis t a).hi) ≡ true
 
 module _ (n : ℕ) (axes : List Axis) (rule : Option Rule) (c : Coefficients) (budget : ℕ) where
   -- where the answer to an opening accepts, the checks accept
@@ -125,21 +125,15 @@ module _ (n : ℕ) (axes : List Axis) (rule : Option Rule) (c : Coefficients) (b
           enough = omega (arith, leb-true);
           not_much = omega (arith, leb-true);
           rule = threshold_sound (rule_of rule) rest.1.0;
-          limits = λ a l. rw (opened_axis a l) (lt_le _ _ (below a l));
+          limits = λ a l. rw (opened_axis a l) (below a l);
         }
 
 -- ---- the trial
 
--- a clamped coordinate lies within its axis's limits
-clamped_within : (t : Setup) → Sane t → (a : ℕ) → a < t.n → (v : Float) → (((axis t a).lo ≤ᶠ clamped t a v) ≡ true) × ((clamped t a v ≤ᶠ (axis t a).hi) ≡ true)
-clamped_within t h a l v =
-    let x = axis t a in
-    (clamp_low x.lo x.hi v (h.limits a l), clamp_high x.lo x.hi v (h.limits a l))
-
 -- every trial lies within its limits
 pub trial_within : (s : Search) → Sane s.setup → Within s.setup (trial s).point
 unfolding trial
-trial_within s h a l = rw (get_or_point s.setup.n (λ b. clamped s.setup b (target s s.phase b)) a l) (clamped_within s.setup h a l (target s s.phase a))
+trial_within s h a l = rw (get_or_point s.setup.n (λ b. clamped s.setup b (target s s.phase b)) a l) (brought_within (axis s.setup a) (target s s.phase a) (h.limits a l))
 
 -- its stops count the axes on which the clamp acts
 pub trial_stops : (s : Search) → Sane s.setup → StopsOf s.setup (target s s.phase) (trial s)

@@ -15,7 +15,7 @@ use lib.ListN.{get_or}
 use borrow.Author.Tests.{not-true}
 use Rattle.rules.specs.Trial.{no_axis}
 use Rattle.rules.specs.Refusals.{Verdict, check}
-use Rattle.rules.specs.Opening.{all_in_range, in_limits, in_step, in_coefficients, in_threshold, rule_of, axis_checks, axes_checks, open_verdict, closed, opening}
+use Rattle.rules.specs.Opening.{all_in_range, in_limits, in_ring, in_step, in_coefficients, in_threshold, rule_of, axis_checks, axes_checks, open_verdict, closed, opening}
 use Rattle.rules.specs.Calls.{undamaged, ask_verdict, tell_verdict, best_verdict}
 use Rattle.rules.specs.Precedence.{Fits, Fit, AxisRefused, OpeningRefused, AskRefused, TellRefused, BestRefused}
 use Rattle.rules.specs.declared.Axis.{Axis}
@@ -23,7 +23,7 @@ use Rattle.rules.specs.declared.Coefficients.{Coefficients}
 use Rattle.rules.specs.declared.Rule.{Rule}
 use Rattle.rules.specs.declared.Search.{Search}
 use Rattle.rules.specs.declared.Refusal.{Refusal}
-use Rattle.rules.specs.declared.Refusal.TheVariants.{AxisCount, OutOfRange, BadLimits, BadStep, BadCoefficient, BadThreshold, BadBudget, SearchEnded, CostTooHigh, WrongNumber, NoReading, Damaged}
+use Rattle.rules.specs.declared.Refusal.TheVariants.{AxisCount, OutOfRange, BadLimits, BadStep, BadCoefficient, BadThreshold, BadBudget, SearchEnded, CostTooHigh, WrongNumber, NoReading, Damaged, RingAtHi}
 
 -- the refusal of a verdict, r where it accepts
 refusal_in : Refusal → Verdict → Refusal
@@ -47,15 +47,17 @@ check_refuses P false q v r h f g = subst P (same_refusal q r (Err q) refl h) (f
 record AxisCases (P : Refusal → Type 0) (i : ℕ) (x : Axis) : Type 0 where
   range : all_in_range x ≡ false → P (OutOfRange i)
   limits : all_in_range x ≡ true → in_limits x ≡ false → P (BadLimits i)
-  step : all_in_range x ≡ true → in_limits x ≡ true → in_step x ≡ false → P (BadStep i)
+  ring : all_in_range x ≡ true → in_limits x ≡ true → in_ring x ≡ false → P (RingAtHi i)
+  step : all_in_range x ≡ true → in_limits x ≡ true → in_ring x ≡ true → in_step x ≡ false → P (BadStep i)
 
--- where the checks of an axis refuse, one of the three fails, or they pass and those after them refuse
+-- where the checks of an axis refuse, one of the four fails, or they pass and those after them refuse
 axis_refuses : (P : Refusal → Type 0) (i : ℕ) (x : Axis) (v : Verdict) (r : Refusal) → axis_checks i x v ≡ Err r
     → AxisCases P i x → (Fits x → v ≡ Err r → P r) → P r
 axis_refuses P i x v r h c g =
     check_refuses P (all_in_range x) (OutOfRange i) _ r h c.range
     (λ p k. check_refuses P (in_limits x) (BadLimits i) _ r k (c.limits p)
-    (λ q l. check_refuses P (in_step x) (BadStep i) v r l (c.step p q) (λ s m. g (record { range = p; limits = q; step = s }) m)))
+    (λ q l. check_refuses P (in_ring x) (RingAtHi i) _ r l (c.ring p q)
+    (λ o l2. check_refuses P (in_step x) (BadStep i) v r l2 (c.step p q o) (λ s m. g (record { range = p; limits = q; ring = o; step = s }) m))))
 
 -- where the checks of k axes from the i-th on refuse, one of an axis fails after all before it have passed, or they pass and those after refuse
 axes_refuse : (P : Refusal → Type 0) (k i : ℕ) (xs : List Axis) (v : Verdict) (r : Refusal) → axes_checks k i xs v ≡ Err r
@@ -71,7 +73,7 @@ axes_refuse P (suc k) i xs v r h before c g =
 
 -- an axis that fits lets the checks after it decide
 axis_lets : (i : ℕ) (x : Axis) (v : Verdict) → Fits x → axis_checks i x v ≡ v
-axis_lets i x v f = rw (f.range, f.limits, f.step) refl
+axis_lets i x v f = rw (f.range, f.limits, f.ring, f.step) refl
 
 -- so do k axes from the i-th on
 axes_let : (k i : ℕ) (xs : List Axis) (v : Verdict) → ((a : ℕ) → a < i + k → Fits (get_or xs a no_axis)) → axes_checks k i xs v ≡ v
@@ -104,7 +106,8 @@ module _ (n : ℕ) (axes : List Axis) (rule : Option Rule) (c : Coefficients) (b
       record {
         range = λ e. record { axis = a; from_1 = refl; one_of = l; before = fit; own = e };
         limits = λ d e. record { axis = a; from_1 = refl; one_of = l; before = fit; own = (d, e) };
-        step = λ d e f. record { axis = a; from_1 = refl; one_of = l; before = fit; own = (d, e, f) };
+        ring = λ d e f. record { axis = a; from_1 = refl; one_of = l; before = fit; own = (d, e, f) };
+        step = λ d e f g. record { axis = a; from_1 = refl; one_of = l; before = fit; own = (d, e, f, g) };
       }
 
   -- a refused opening has failed the check of its refusal and passed those before
@@ -142,7 +145,8 @@ module _ (n : ℕ) (axes : List Axis) (rule : Option Rule) (c : Coefficients) (b
   opening_given AxisCount f = rw f refl
   opening_given (OutOfRange i) h = axis_given (OutOfRange i) i _ h (λ x w o. rw o refl)
   opening_given (BadLimits i) h = axis_given (BadLimits i) i _ h (λ x w o. rw (o.0, o.1) refl)
-  opening_given (BadStep i) h = axis_given (BadStep i) i _ h (λ x w o. rw (o.0, o.1, o.2) refl)
+  opening_given (RingAtHi i) h = axis_given (RingAtHi i) i _ h (λ x w o. rw (o.0, o.1, o.2) refl)
+  opening_given (BadStep i) h = axis_given (BadStep i) i _ h (λ x w o. rw (o.0, o.1, o.2, o.3) refl)
   opening_given BadCoefficient h = later_given h.0 ∙ rw h.1 refl
   opening_given BadThreshold h = later_given h.0 ∙ rw (h.1, h.2) refl
   opening_given BadBudget h = later_given h.0 ∙ rw (h.1, h.2, h.3) refl

@@ -11,12 +11,12 @@ use lib.ListN.{length, get_or, length-append, get_or-append}
 use lib.Seq.{get_or-append_seam}
 use lib.Ieee.{Float, nan}
 use Rattle.std.proofs.lemmas.Bool.{cases_Bool, cases_lt, cond_both, false_from_ne_true}
-use Rattle.rules.specs.Binary64.{◌≤ᶠ◌}
+use Rattle.rules.specs.Binary64.{◌<ᶠ◌}
 use Rattle.rules.specs.Trial.{axis, clamped, stopped, stops_to, made}
 use Rattle.rules.specs.Claims.{StopsOf}
 use Rattle.rules.specs.declared.Setup.{Setup}
 use Rattle.rules.proofs.Laws.Lists.{get_or_point, mem_get_or}
-use Rattle.rules.proofs.Laws.Clamp.{changes_outside, changes_when, unchanged, changed_to_limit}
+use Rattle.rules.proofs.Laws.Axes.{brought_inside, brought_on_ring, stop_outside, stop_moves, stop_on_limit}
 
 module _ (t : Setup) (f : ℕ → Float) where
   -- no axis counts twice
@@ -109,18 +109,19 @@ module _ (t : Setup) (f : ℕ → Float) where
       (cases_Bool (stopped t k (f k)))
 
   -- the stops of a trial whose limits are in order
-  pub stops_of : ((a : ℕ) → a < t.n → ((axis t a).lo ≤ᶠ (axis t a).hi) ≡ true) → StopsOf t f (made t t.n f)
+  pub stops_of : ((a : ℕ) → a < t.n → ((axis t a).lo <ᶠ (axis t a).hi) ≡ true) → StopsOf t f (made t t.n f)
   stops_of ordered =
       let l = lists t.n in
       let point_at : (a : ℕ) → a < t.n → get_or (made t t.n f).point a nan ≡ clamped t a (f a) = λ a m. get_or_point t.n (λ b. clamped t b (f b)) a m in
-      let tests = λ (a : ℕ). changes_outside (axis t a).lo (axis t a).hi (f a) in
+      let tests = λ (a : ℕ). stop_outside (axis t a) (f a) in
       record {
         axes = counted_axes t.n;
         many = sym l.many;
         rising = l.rising;
         at_most_n = stops_low t.n;
-        outside = λ a. (λ q. let p = (l.exactly a).0 q in (p.0, (tests a).0 p.1), λ q. (l.exactly a).1 (q.0, (tests a).1 q.1));
-        moved = λ a q. let p = (l.exactly a).0 q in rw (point_at a p.0) ((changes_when (axis t a).lo (axis t a).hi (f a) (ordered a p.0)).0 p.1);
-        kept = λ a m u. rw (point_at a m) (unchanged (axis t a).lo (axis t a).hi (f a) (false_from_ne_true (stopped t a (f a)) (λ e. u ((l.exactly a).1 (m, e)))));
-        on_limit = λ a q. let p = (l.exactly a).0 q in rw (point_at a p.0) (changed_to_limit (axis t a).lo (axis t a).hi (f a) p.1);
+        outside = λ a. (λ q. let p = (l.exactly a).0 q in let o = (tests a).0 p.1 in (p.0, o.0, o.1), λ q. (l.exactly a).1 (q.0, (tests a).1 (q.1, q.2)));
+        moved = λ a q. let p = (l.exactly a).0 q in rw (point_at a p.0) (stop_moves (axis t a) (f a) p.1 (ordered a p.0));
+        kept = λ a m w. rw (point_at a m) (brought_inside (axis t a) (f a) w);
+        round = λ a m e. rw (point_at a m) (brought_on_ring (axis t a) (f a) e);
+        on_limit = λ a q. let p = (l.exactly a).0 q in rw (point_at a p.0) (stop_on_limit (axis t a) (f a) p.1);
       }

@@ -1,7 +1,7 @@
 -- Laws on what a line of the input does. Assumes nothing.
 use Rattle.std.specs.Prelude.{Option, Ok, Err}
 use mathlib.Core.Path.{◌≡◌, refl, sym, ◌∙◌}
-use mathlib.Core.Bool.{◌&&◌, and-eq-true_iff}
+use mathlib.Core.Bool.{false, ◌&&◌, and-eq-true_iff}
 use mathlib.Core.List.{List}
 use Prim.Native.Nat.{ℕ, suc, ◌≤◌, ◌<◌}
 use native.Mathlib.Omega.{arith}
@@ -26,11 +26,11 @@ use Rattle.tune_text.specs.declared.Request.{Request}
 
 -- an axis record of zeros
 abbrev IsZero : Axis → Type 0
-IsZero x = (x.lo ≡ 0ᶠ) × ((x.hi ≡ 0ᶠ) × ((x.start ≡ 0ᶠ) × (x.step ≡ 0ᶠ)))
+IsZero x = (x.lo ≡ 0ᶠ) × ((x.hi ≡ 0ᶠ) × ((x.start ≡ 0ᶠ) × ((x.step ≡ 0ᶠ) × (x.ring ≡ false))))
 
 is_zero : (x : Axis) → IsZero x → x ≡ zero_axis
 is_zero x z =
-    let e : ◌≡◌ {A = Axis} (record { lo = x.lo; hi = x.hi; start = x.start; step = x.step }) zero_axis = rw (z.0, z.1.0, z.1.1.0, z.1.1.1) in e
+    let e : ◌≡◌ {A = Axis} (record { lo = x.lo; hi = x.hi; start = x.start; step = x.step; ring = x.ring }) zero_axis = rw (z.0, z.1.0, z.1.1.0, z.1.1.1.0, z.1.1.1.1) in e
 
 -- eight default axis records are zero records
 pub default_axes : (axes : List Axis) → AllOfLen IsZero axes 8 → axes ≡ replicate 8 zero_axis
