@@ -61,7 +61,11 @@ fn going_round(rt: &impl Print) -> io::Result<()> {
     play_each(
         rt,
         s,
-        &[&[30, 20, 10, 5, 6], &[30, 20, 10, 25, 24], &[30, 20, 10, 35]],
+        &[
+            &[30, 20, 10, 5, 6],
+            &[30, 20, 10, 25, 24],
+            &[30, 20, 10, 35],
+        ],
     )?;
     let at_lo = with_second(opening(2, 0.0, 8.0, None, 100), ring(-8.0, 8.0));
     let s = engine::open_search(&at_lo).search;

@@ -1,5 +1,5 @@
 -- The worked searches trial by trial, the stopping rules at their edges, the opening's refusals edge by edge, what a search carries, refusal 12
--- cause by cause, and a trial's stops, by computation. Assumes nothing.
+-- cause by cause, a trial's stops, and rings, by computation. Assumes nothing.
 use mathlib.Core.Path.{◌≡◌, refl}
 use Rattle.rules.specs.Simplex.{flat, store}
 use Rattle.rules.specs.History.{costs_in, before_cost}
@@ -12,6 +12,8 @@ use Rattle.rules.specs.Edges.{edges_given, edges_stated, opened_given, opened_st
 use Rattle.rules.specs.Parts.{parts_given, parts_stated, numbers_given, numbers_stated, tallies_given, tallies_stated, runs_given, runs_stated, closed_stated}
 use Rattle.rules.specs.Causes.{causes_given, causes_stated, strays_given, strays_stated}
 use Rattle.rules.specs.Stops.{stops_given, stops_stated, limited_given, limited_stated, asks_given, asks_stated}
+use Rattle.rules.specs.Rings.{brought_given, brought_stated, ring_openings_given, ring_openings_stated, rings_given, rings_stated}
+use Rattle.rules.specs.RingWalks.{ring_walks_given, ring_walks_stated, ring_judged_given, ring_judged_stated, ring_limited_given, ring_limited_stated}
 use Rattle.rules.proofs.Examples.{floats, rules, calls}
 
 pub walks : walks_given ≡ walks_stated
@@ -73,3 +75,27 @@ limited = refl
 pub asks : asks_given ≡ asks_stated
 unfolding asks_given asks_stated calls
 asks = refl
+
+pub brought : brought_given ≡ brought_stated
+unfolding brought_given brought_stated floats
+brought = refl
+
+pub ring_openings : ring_openings_given ≡ ring_openings_stated
+unfolding ring_openings_given ring_openings_stated axes_checks open_verdict floats
+ring_openings = refl
+
+pub ring_judged : ring_judged_given ≡ ring_judged_stated
+unfolding ring_judged_given ring_judged_stated axes_checks open_verdict floats
+ring_judged = refl
+
+pub rings : rings_given ≡ rings_stated
+unfolding rings_given rings_stated rules
+rings = refl
+
+pub ring_walks : ring_walks_given ≡ ring_walks_stated
+unfolding ring_walks_given ring_walks_stated walk_by rules
+ring_walks = refl
+
+pub ring_limited : ring_limited_given ≡ ring_limited_stated
+unfolding ring_limited_given ring_limited_stated rules
+ring_limited = refl

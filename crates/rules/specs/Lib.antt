@@ -1,4 +1,4 @@
--- The rules of document 01, each file after those that it uses.
+-- The rules of document 01 and what document 02 has added, each file after those that it uses.
 pub mod Binary64
 pub mod Numbers
 pub mod Simplex
@@ -25,3 +25,5 @@ pub mod Edges
 pub mod Parts
 pub mod Causes
 pub mod Stops
+pub mod Rings
+pub mod RingWalks
