@@ -47,7 +47,7 @@ narrow_costs = 47 ∷ 59 ∷ 36 ∷ 33 ∷ 19 ∷ 16 ∷ 8 ∷ 31 ∷ 33 ∷ 26 
 -- its trials, each with its stops
 abbrev pub narrow_trials : List (List ℕ)
 narrow_trials =
-    -- the build (47, 59, 36): axis 1 stands on hi unclamped; axis 2 turns back, which is no stop
+    -- the build (47, 59, 36): axis 1 stands on hi unclamped; axis 2 steps back, which is no stop
     (0x3fe6_6666_6666_6666 ∷ 0x3fd3_3333_3333_3333 ∷ 0 ∷ []) ∷ (0x3ffc_cccc_cccc_cccd ∷ 0x3fd3_3333_3333_3333 ∷ 0 ∷ [])
     ∷ (0x3fe6_6666_6666_6666 ∷ 0xbfe0_0000_0000_0000 ∷ 0 ∷ [])
     -- r is within, e is not on axis 1
@@ -100,7 +100,7 @@ level =
 -- its trials, each with its stops
 abbrev pub level_trials : List (List ℕ)
 level_trials =
-    -- the build (25, 25, 14, 5): the start stands on hi, and axis 1 turns back
+    -- the build (25, 25, 14, 5): the start stands on hi, and axis 1 steps back
     (0x3fe9_9999_9999_999a ∷ 0 ∷ 0 ∷ 0 ∷ []) ∷ (0xbfff_ffff_ffff_ffff ∷ 0 ∷ 0 ∷ 0 ∷ [])
     ∷ (0x3fe9_9999_9999_999a ∷ 0x3ff0_0000_0000_0000 ∷ 0 ∷ 0 ∷ []) ∷ (0x3fe9_9999_9999_999a ∷ 0 ∷ 0x3ff0_0000_0000_0000 ∷ 0 ∷ [])
     -- fr 24 is not below f1 5, and below fn 25: r is taken, clamped to hi on axis 1
@@ -137,7 +137,7 @@ stops_stated =
     ∷ counts (replicate 17 0)
     -- r is below lo, 0.0; later a −0.0 is not
     ∷ counts (0 ∷ 0 ∷ 0 ∷ 1 ∷ 0 ∷ 0 ∷ 0 ∷ [])
-    -- the best stands on hi of axis 1: the first probe of both rounds is clamped onto it; a build's turn is no stop; the last r is past hi
+    -- the best stands on hi of axis 1: the first probe of both rounds is clamped onto it; a step back of a build is no stop; the last r is past hi
     ∷ counts (0 ∷ 0 ∷ 0 ∷ 1 ∷ 0 ∷ 0 ∷ 0 ∷ 0 ∷ 0 ∷ 1 ∷ 0 ∷ 0 ∷ 0 ∷ 1 ∷ [])
     ∷ []
 
