@@ -170,9 +170,9 @@ module _ (n : ℕ) (axes : List Axis) (rule : Option Rule) (coefficients : Coeff
   pub controller_told : (cs : List Call) (k : ℕ) → k < length (accepted_costs cs) → Permitted (reading opened_search (accepted_history cs) k).point
   controller_told cs k l = permitted (reading opened_search (accepted_history cs) k).point ((claims cs).within_told k l)
 
-  -- its stops are as many axes, each another one, that stand on a limit that the opening gave
+  -- its stops are as many axes, each another one and no ring, that stand on a limit that the opening gave
   abbrev pub OnLimit : List Float → ℕ → Type 0
-  OnLimit x i = (i < n) × ((get_or x i nan ≡ (get_or axes i no_axis).lo) ⊎ (get_or x i nan ≡ (get_or axes i no_axis).hi))
+  OnLimit x i = (i < n) × ((get_or axes i no_axis).ring ≡ false) × ((get_or x i nan ≡ (get_or axes i no_axis).lo) ⊎ (get_or x i nan ≡ (get_or axes i no_axis).hi))
 
   pub controller_stops : (cs : List Call) (a : Asked) → asking (reached cs) ≡ Ok a
       → (xs : List ℕ) × (a.trial.stops ≡ length xs) × ((i j : ℕ) → i < j → j < length xs → get_or xs i 0 < get_or xs j 0) × ((i : ℕ) → Memᴰ i xs → OnLimit a.trial.point i)
@@ -184,8 +184,8 @@ module _ (n : ℕ) (axes : List Axis) (rule : Option Rule) (coefficients : Coeff
       let s : StopsOf (fresh n axes rule coefficients budget).setup (target now now.phase) a.trial =
       subst (λ (t : Setup). StopsOf t (target now now.phase) a.trial) setup_given ((claims cs).stops_asked a e) in
       let stands : (i : ℕ) → Memᴰ i s.axes → OnLimit x i = λ i m.
-      let l = ((s.outside i).0 m).0 in
-      (l, subst (λ (y : Axis). (get_or x i nan ≡ y.lo) ⊎ (get_or x i nan ≡ y.hi)) (given i l) (s.on_limit i m)) in
+      let o = (s.outside i).0 m in
+      (o.0, subst (λ (y : Axis). y.ring ≡ false) (given i o.0) o.1, subst (λ (y : Axis). (get_or x i nan ≡ y.lo) ⊎ (get_or x i nan ≡ y.hi)) (given i o.0) (s.on_limit i m)) in
       (s.axes, s.many, s.rising, stands)
 
   -- an ended search proposes nothing more
