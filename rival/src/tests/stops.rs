@@ -113,7 +113,7 @@ fn contractions_after_a_clamped_r() {
 }
 
 #[test]
-fn the_turn_of_a_build_is_no_stop() {
+fn the_step_back_of_a_build_is_no_stop() {
     assert_stops(&one(7.5, 1.0, &[1]), 0, &[6.5]);
     // That of a restart neither: from the probe 7 + d a step up passes 8.
     let search = one(7.0, 1.0, &[4, 4, 3]);

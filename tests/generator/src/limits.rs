@@ -2,6 +2,7 @@
 
 use crate::costs::Costs;
 use crate::mild;
+use crate::parts;
 use crate::random::Random;
 use crate::script::Script;
 use rival::Search;
@@ -27,6 +28,20 @@ pub fn episode(script: &mut Script, random: &mut Random, costs: &mut Costs) {
         }
     }
     let before = script.state();
+    go_on_within(script, random, costs, bound);
+    if random.one_in(2) {
+        let both = (1..=8).flat_map(|axis| [[LO, axis, 0], [HI, axis, 0]]);
+        both.for_each(|line| script.write(before.undoing(line)));
+    }
+}
+
+/// Limits written by `bound`, an ask and tells after them; and that again a few times.
+pub fn go_on_within(
+    script: &mut Script,
+    random: &mut Random,
+    costs: &mut Costs,
+    bound: fn(&mut Script, &mut Random),
+) {
     for _ in 0..random.between(1, 5) {
         if !script.goes_on() {
             break;
@@ -34,25 +49,12 @@ pub fn episode(script: &mut Script, random: &mut Random, costs: &mut Costs) {
         bound(script, random);
         script.ask();
         for _ in 0..random.pick(&[0, 0, 1, 2, 5]) {
-            tell(script, random, costs);
+            parts::measure(script, random, costs);
             script.ask();
         }
         if random.one_in(8) {
             script.show();
         }
-    }
-    if random.one_in(2) {
-        let both = (1..=8).flat_map(|axis| [[LO, axis, 0], [HI, axis, 0]]);
-        both.for_each(|line| script.write(before.undoing(line)));
-    }
-}
-
-/// Tells the cost of the trial, if there is one.
-fn tell(script: &mut Script, random: &mut Random, costs: &mut Costs) {
-    if let Some(trial) = script.trial() {
-        let cost = costs.next(random, &trial.point);
-        costs.tell(cost);
-        script.tell(script.next_number(), cost);
     }
 }
 

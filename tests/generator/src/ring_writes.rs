@@ -2,8 +2,8 @@
 //! down, or becomes lo.
 
 use crate::costs::{Costs, DARK};
+use crate::limits;
 use crate::mild;
-use crate::parts;
 use crate::random::Random;
 use crate::script::Script;
 use crate::state::{State, Written};
@@ -28,20 +28,7 @@ pub fn episode(script: &mut Script, random: &mut Random, costs: &mut Costs) {
     if random.one_in(4) {
         around_no_number(script, random);
     }
-    for _ in 0..random.between(1, 5) {
-        if !script.goes_on() {
-            break;
-        }
-        bound(script, random);
-        script.ask();
-        for _ in 0..random.pick(&[0, 0, 1, 2, 5]) {
-            parts::measure(script, random, costs);
-            script.ask();
-        }
-        if random.one_in(8) {
-            script.show();
-        }
-    }
+    limits::go_on_within(script, random, costs, bound);
     if random.one_in(2) {
         put_back(script, &before);
     }
