@@ -1,7 +1,7 @@
 -- What each caller relies on, of every search that an opening and calls have made. Assumes nothing.
 use Rattle.std.specs.Prelude.{Option, Result, Ok, Err}
 use mathlib.Core.Path.{◌≡◌, refl, sym, ap, ◌∙◌, subst}
-use mathlib.Core.Bool.{Bool, true, false, cond, and-eq-true_iff, not}
+use mathlib.Core.Bool.{Bool, true, false, true≢false, cond, and-eq-true_iff, not}
 use mathlib.Core.List.{List, [], ◌∷◌, ◌++◌, Memᴰ}
 use mathlib.Core.Logic.{◌↔◌, ◌⊎◌, ⊎_elim}
 use Prim.Native.Nat.{ℕ, ◌+◌, ◌-◌, ◌*◌, ◌≤◌, ◌<◌}
@@ -10,7 +10,7 @@ use lib.ListN.{length, get_or}
 use lib.Ieee.{Float, nan}
 use borrow.Author.Tests.{ne_eqb, eq-eqb, lt-leb, not-true}
 use Rattle.std.proofs.lemmas.Bool.{cases_Bool, cases_lt}
-use Rattle.rules.specs.Binary64.{◌≤ᶠ◌}
+use Rattle.rules.specs.Binary64.{◌≤ᶠ◌, ◌<ᶠ◌}
 use Rattle.rules.specs.Numbers.{max_cost}
 use Rattle.rules.specs.Simplex.{cost_of, point_of}
 use Rattle.rules.specs.View.{is_ended}
@@ -30,6 +30,7 @@ use Rattle.rules.specs.declared.Asked.{Asked}
 use Rattle.rules.specs.declared.Vertex.{Vertex}
 use Rattle.rules.specs.declared.Refusal.{Refusal}
 use Rattle.rules.specs.declared.Refusal.TheVariants.{SearchEnded, CostTooHigh, WrongNumber, NoReading, Damaged}
+use Rattle.rules.proofs.Laws.Clamp.{lt_le}
 use Rattle.rules.proofs.Laws.Openings.{opened_verdict, opened_fresh, opened_axis}
 use Rattle.rules.proofs.Laws.Histories.{Joined}
 use Rattle.rules.proofs.Runs.Begun.{Begun, whole_run}
@@ -149,17 +150,29 @@ module _ (n : ℕ) (axes : List Axis) (rule : Option Rule) (coefficients : Coeff
   pub tell_exactly : (cs : List Call) (k c : ℕ) → ((telling (reached cs) k c).verdict ≡ Ok tt) ↔ (joins opened_search (accepted_history cs) k c ≡ true)
   tell_exactly cs = (claims cs).accepts
 
-  -- ---- the controller: every trial lies within the limits that the opening gave: lo ≤ v ≤ hi on each axis, and lo ≤ v < hi on a ring
+  -- ---- the controller: every trial lies within the limits that the opening gave
+
+  -- v is permitted on an axis: lo ≤ v ≤ hi; "A ring trial satisfies lo ≤ v < hi"
+  abbrev pub PermittedOn : Axis → Float → Type 0
+  PermittedOn y v = ((y.lo ≤ᶠ v) ≡ true) × ((v ≤ᶠ y.hi) ≡ true) × (y.ring ≡ true → (v <ᶠ y.hi) ≡ true)
+
+  permitted_on : (y : Axis) (v : Float) → within y v ≡ true → PermittedOn y v
+  permitted_on y v h =
+      let both = simp and-eq-true_iff at h in
+      ⊎_elim
+      (λ e. let below = rw e at both.1 in (both.0, lt_le v y.hi below, λ r. below))
+      (λ e. (both.0, rw e at both.1, λ r. absurd (true≢false (sym r ∙ e))))
+      (cases_Bool y.ring)
 
   abbrev pub Permitted : List Float → Type 0
-  Permitted x = (a : ℕ) → a < n → within (get_or axes a no_axis) (get_or x a nan) ≡ true
+  Permitted x = (a : ℕ) → a < n → PermittedOn (get_or axes a no_axis) (get_or x a nan)
 
   permitted : (x : List Float) → Within opened_search.setup x → Permitted x
   unfolding fresh
   permitted x w a l =
       let given : Within (fresh n axes rule coefficients budget).setup x = subst (λ (t : Setup). Within t x) setup_given w in
       let e = opened_axis n axes rule coefficients budget (opened_verdict n axes rule coefficients budget accepted) a l in
-      subst (λ (y : Axis). within y (get_or x a nan) ≡ true) e (given a l)
+      permitted_on (get_or axes a no_axis) (get_or x a nan) (subst (λ (y : Axis). within y (get_or x a nan) ≡ true) e (given a l))
 
   pub controller_asked : (cs : List Call) → is_ended (reached cs).phase ≡ false → (a : Asked) × (asking (reached cs) ≡ Ok a) × Permitted a.trial.point
   controller_asked cs e =
@@ -172,7 +185,9 @@ module _ (n : ℕ) (axes : List Axis) (rule : Option Rule) (coefficients : Coeff
 
   -- its stops are as many axes, each another one and no ring, that stand on a limit that the opening gave
   abbrev pub OnLimit : List Float → ℕ → Type 0
-  OnLimit x i = (i < n) × ((get_or axes i no_axis).ring ≡ false) × ((get_or x i nan ≡ (get_or axes i no_axis).lo) ⊎ (get_or x i nan ≡ (get_or axes i no_axis).hi))
+  OnLimit x i =
+      let y = get_or axes i no_axis in
+      (i < n) × (y.ring ≡ false) × ((get_or x i nan ≡ y.lo) ⊎ (get_or x i nan ≡ y.hi))
 
   pub controller_stops : (cs : List Call) (a : Asked) → asking (reached cs) ≡ Ok a
       → (xs : List ℕ) × (a.trial.stops ≡ length xs) × ((i j : ℕ) → i < j → j < length xs → get_or xs i 0 < get_or xs j 0) × ((i : ℕ) → Memᴰ i xs → OnLimit a.trial.point i)
@@ -185,7 +200,8 @@ module _ (n : ℕ) (axes : List Axis) (rule : Option Rule) (coefficients : Coeff
       subst (λ (t : Setup). StopsOf t (target now now.phase) a.trial) setup_given ((claims cs).stops_asked a e) in
       let stands : (i : ℕ) → Memᴰ i s.axes → OnLimit x i = λ i m.
       let o = (s.outside i).0 m in
-      (o.0, subst (λ (y : Axis). y.ring ≡ false) (given i o.0) o.1, subst (λ (y : Axis). (get_or x i nan ≡ y.lo) ⊎ (get_or x i nan ≡ y.hi)) (given i o.0) (s.on_limit i m)) in
+      let on = subst (λ (y : Axis). (get_or x i nan ≡ y.lo) ⊎ (get_or x i nan ≡ y.hi)) (given i o.0) (s.on_limit i m) in
+      (o.0, subst (λ (y : Axis). y.ring ≡ false) (given i o.0) o.1, on) in
       (s.axes, s.many, s.rising, stands)
 
   -- an ended search proposes nothing more

@@ -13,7 +13,7 @@ use Rattle.rules.specs.Parts.{parts_given, parts_stated, numbers_given, numbers_
 use Rattle.rules.specs.Causes.{causes_given, causes_stated, strays_given, strays_stated}
 use Rattle.rules.specs.Stops.{stops_given, stops_stated, limited_given, limited_stated, asks_given, asks_stated}
 use Rattle.rules.specs.Rings.{brought_given, brought_stated, ring_openings_given, ring_openings_stated, rings_given, rings_stated}
-use Rattle.rules.specs.RingWalks.{ring_walks_given, ring_walks_stated, ring_judged_given, ring_judged_stated, ring_limited_given, ring_limited_stated}
+use Rattle.rules.specs.RingWalks.{ring_walks_given, ring_walks_stated, plain_given, plain_stated, ring_judged_given, ring_judged_stated, ring_limited_given, ring_limited_stated}
 use Rattle.rules.proofs.Examples.{floats, rules, calls}
 
 pub walks : walks_given ≡ walks_stated
@@ -95,6 +95,10 @@ rings = refl
 pub ring_walks : ring_walks_given ≡ ring_walks_stated
 unfolding ring_walks_given ring_walks_stated walk_by rules
 ring_walks = refl
+
+pub plain : plain_given ≡ plain_stated
+unfolding plain_given plain_stated rules
+plain = refl
 
 pub ring_limited : ring_limited_given ≡ ring_limited_stated
 unfolding ring_limited_given ring_limited_stated rules

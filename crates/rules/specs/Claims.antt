@@ -48,7 +48,7 @@ within x v = (x.lo ≤ᶠ v) && cond x.ring (v <ᶠ x.hi) (v ≤ᶠ x.hi)
 abbrev pub Within : Setup → List Float → Type 0
 Within t x = (a : ℕ) → a < t.n → within (axis t a) (get_or x a nan) ≡ true
 
--- the stops of the trial x count these axes, f being its numbers before the clamp: "every trial carries how many axes were so changed"
+-- the stops of the trial x count these axes, f being its numbers before they are brought in: "every trial carries how many axes were so changed"
 pub record StopsOf (t : Setup) (f : ℕ → Float) (x : Trial) : Type 0 where
   -- as many as counted, each once, since each is higher than the one before it
   pub axes : List ℕ
@@ -57,12 +57,13 @@ pub record StopsOf (t : Setup) (f : ℕ → Float) (x : Trial) : Type 0 where
   pub at_most_n : x.stops ≤ t.n
   -- an axis that is no ring counts exactly where its number fails lo ≤ v or v ≤ hi; a ring never does
   pub outside : (a : ℕ) → Memᴰ a axes ↔ ((a < t.n) × ((axis t a).ring ≡ false) × (within (axis t a) (f a) ≡ false))
-  -- there its coordinate is another number, and stands on a limit; a number that lies within has its bits kept, on any axis; a ring's is brought
-  -- round
+  -- there its coordinate is another number, and stands on a limit
   pub moved : (a : ℕ) → Memᴰ a axes → get_or x.point a nan ≡ f a → ⊥
-  pub kept : (a : ℕ) → a < t.n → within (axis t a) (f a) ≡ true → get_or x.point a nan ≡ f a
-  pub round : (a : ℕ) → a < t.n → (axis t a).ring ≡ true → get_or x.point a nan ≡ brought_round (axis t a).lo (axis t a).hi (f a)
   pub on_limit : (a : ℕ) → Memᴰ a axes → (get_or x.point a nan ≡ (axis t a).lo) ⊎ (get_or x.point a nan ≡ (axis t a).hi)
+  -- a number that lies within has its bits kept, on any axis
+  pub kept : (a : ℕ) → a < t.n → within (axis t a) (f a) ≡ true → get_or x.point a nan ≡ f a
+  -- on a ring the coordinate is the number brought round
+  pub round : (a : ℕ) → a < t.n → (axis t a).ring ≡ true → get_or x.point a nan ≡ brought_round (axis t a).lo (axis t a).hi (f a)
 
 -- S: "adds the costs standing at that end", after the history h
 abbrev pub standing_total : Search → List Event → ℕ

@@ -2,15 +2,16 @@
 use Rattle.std.specs.Prelude.{true, List, [], ◌∷◌, ℕ, replicate, Some, Ok}
 use Rattle.rules.specs.Refusals.{Verdict}
 use Rattle.rules.specs.Opening.{zero_axis}
-use Rattle.rules.specs.Cases.{two_axes}
+use Rattle.rules.specs.Numbers.{usual}
+use Rattle.rules.specs.Examples.{after_costs}
+use Rattle.rules.specs.Cases.{bits, two_axes}
 use Rattle.rules.specs.Walks.{axis_at, coefficients_at, judged, begun, walk_by, odd_coefficients}
-use Rattle.rules.specs.Parts.{at}
 use Rattle.rules.specs.Causes.{with_phase}
-use Rattle.rules.specs.Stops.{asked_counted, narrow, narrow_costs, with_limits, limits, past}
+use Rattle.rules.specs.Stops.{asked_counted, limits, over}
 use Rattle.rules.specs.declared.Axis.{Axis}
 use Rattle.rules.specs.declared.Opening.{Opening}
-use Rattle.rules.specs.declared.Search.{Search}
-use Rattle.rules.specs.declared.Rule.TheVariants.{Spread}
+use Rattle.rules.specs.declared.Rule.{Rule}
+use Rattle.rules.specs.declared.Rule.TheVariants.{Spread, Moved, Size}
 use Rattle.rules.specs.declared.Phase.TheVariants.{Probing}
 use Rattle.rules.specs.Rings.{ring_at}
 
@@ -118,8 +119,8 @@ from_lo_trials =
     ∷ []
 
 -- two rings: axis 1 from 0.1 to 0.7, start 0.5, step 0.25; axis 2 from −0.3 to 1.1, start 1, step 0.6; α 3.7, χ 7.9, β 0.7, σ 0.2
-abbrev pub rotators : Opening
-rotators =
+abbrev pub two_rings : Opening
+two_rings =
     record {
       n = 2;
       axes = two_axes (ring_at 0x3fb9_9999_9999_999a 0x3fe6_6666_6666_6666 0x3fe0_0000_0000_0000 0x3fd0_0000_0000_0000)
@@ -130,12 +131,12 @@ rotators =
     }
 
 -- the costs told to it
-abbrev pub rotators_costs : List ℕ
-rotators_costs = 32 ∷ 38 ∷ 32 ∷ 30 ∷ 26 ∷ 30 ∷ 17 ∷ 23 ∷ 2 ∷ 17 ∷ 17 ∷ []
+abbrev pub two_rings_costs : List ℕ
+two_rings_costs = 32 ∷ 38 ∷ 32 ∷ 30 ∷ 26 ∷ 30 ∷ 17 ∷ 23 ∷ 2 ∷ 17 ∷ 17 ∷ []
 
 -- its trials, each with its stops
-abbrev pub rotators_trials : List (List ℕ)
-rotators_trials =
+abbrev pub two_rings_trials : List (List ℕ)
+two_rings_trials =
     -- the build (32, 38, 32)
     (0x3fe0_0000_0000_0000 ∷ 0x3ff0_0000_0000_0000 ∷ 0 ∷ [])
     -- past hi on axis 1
@@ -162,34 +163,87 @@ rotators_trials =
     ∷ (0x3fd6_f1d3_ed52_7e62 ∷ 0x3fe7_bb92_11e5_dbd9 ∷ 0 ∷ [])
     ∷ []
 
--- one ring from −0.6 to 1.8 that starts at 1.7995, step 0.9: a probe steps over hi
-abbrev pub near_hi : Opening
-near_hi =
+-- one ring from 0.6 to 1.8 that starts at 1.7999, step 0.5, under spread e
+abbrev pub near_hi : ℕ → Opening
+near_hi e =
     record {
       n = 1;
-      axes = ring_at 0xbfe3_3333_3333_3333 0x3ffc_cccc_cccc_cccd 0x3ffc_cac0_8312_6e98 0x3fec_cccc_cccc_cccd ∷ replicate 7 zero_axis;
-      rule = Some (Spread 100);
+      axes = ring_at 0x3fe3_3333_3333_3333 0x3ffc_cccc_cccc_cccd 0x3ffc_cc63_f141_205c 0x3fe0_0000_0000_0000 ∷ replicate 7 zero_axis;
+      rule = Some (Spread e);
+      coefficients = odd_coefficients;
+      budget = 100;
+    }
+
+-- the costs told to it under spread 100: a probe steps over hi
+abbrev pub probed_costs : List ℕ
+probed_costs = 5 ∷ 6 ∷ 4 ∷ 7 ∷ []
+
+-- its trials, each with its stops
+abbrev pub probed_trials : List (List ℕ)
+probed_trials =
+    -- the build (5, 6)
+    (0x3ffc_cc63_f141_205c ∷ 0 ∷ [])
+    -- past hi
+    ∷ (0x3ff1_9930_be0d_ed28 ∷ 0 ∷ [])
+    -- the rule is met: probes (4); past hi
+    ∷ (0x3fe3_3661_7c1b_da50 ∷ 0 ∷ [])
+    -- a lower probe: a build around it (7)
+    ∷ (0x3ff1_9b30_be0d_ed28 ∷ 0 ∷ [])
+    -- the rule is met: a probe
+    ∷ (0x3fe3_3a61_7c1b_da50 ∷ 0 ∷ [])
+    ∷ []
+
+-- those under spread 1: a shrink, x2 being more than half a turn from x1
+abbrev pub drawn_costs : List ℕ
+drawn_costs = 5 ∷ 9 ∷ 9 ∷ 9 ∷ 6 ∷ []
+
+-- its trials, each with its stops
+abbrev pub drawn_trials : List (List ℕ)
+drawn_trials =
+    -- the build (5, 9)
+    (0x3ffc_cc63_f141_205c ∷ 0 ∷ [])
+    -- past hi
+    ∷ (0x3ff1_9930_be0d_ed28 ∷ 0 ∷ [])
+    -- fr 9 is not below fw 9: the inside point; past hi
+    ∷ (0x3ff1_703a_fb7e_9100 ∷ 0 ∷ [])
+    -- fc 9 is not below fw: a shrink
+    ∷ (0x3ff9_703a_fb7e_9100 ∷ 0 ∷ [])
+    ∷ (0x3ff6_1412_05bc_01a3 ∷ 0 ∷ [])
+    -- the rule is met: a probe; past hi
+    ∷ (0x3fe3_3661_7c1b_da50 ∷ 0 ∷ [])
+    ∷ []
+
+-- all vertices but one stand at the float before hi on axis 1, a ring from −8 to 0.8, start there, step 2.8, and c rounds to hi; axes 2 and 3 go
+-- from −8 to 8, start 0, step 1
+abbrev pub high : Opening
+high =
+    record {
+      n = 3;
+      axes = ring_at 0xc020_0000_0000_0000 0x3fe9_9999_9999_999b 0x3fe9_9999_9999_999a 0x4006_6666_6666_6666
+          ∷ axis_at 0xc020_0000_0000_0000 0x4020_0000_0000_0000 0 0x3ff0_0000_0000_0000
+          ∷ axis_at 0xc020_0000_0000_0000 0x4020_0000_0000_0000 0 0x3ff0_0000_0000_0000 ∷ replicate 5 zero_axis;
+      rule = Some (Spread 1);
       coefficients = odd_coefficients;
       budget = 100;
     }
 
 -- the costs told to it
-abbrev pub near_hi_costs : List ℕ
-near_hi_costs = 5 ∷ 6 ∷ 4 ∷ 7 ∷ []
+abbrev pub high_costs : List ℕ
+high_costs = 5 ∷ 25 ∷ 14 ∷ 7 ∷ 4 ∷ []
 
 -- its trials, each with its stops
-abbrev pub near_hi_trials : List (List ℕ)
-near_hi_trials =
-    -- the build (5, 6)
-    (0x3ffc_cac0_8312_6e98 ∷ 0 ∷ [])
-    -- past hi
-    ∷ (0x3fd3_2b02_0c49_ba60 ∷ 0 ∷ [])
-    -- the rule is met: probes (4); past hi
-    ∷ (0xbfe3_3018_9374_bc68 ∷ 0 ∷ [])
-    -- a lower probe: a build around it (7)
-    ∷ (0x3fd3_3968_72b0_20ca ∷ 0 ∷ [])
-    -- the rule is met: a probe
-    ∷ (0xbfe3_28e5_6041_8935 ∷ 0 ∷ [])
+abbrev pub high_trials : List (List ℕ)
+high_trials =
+    -- the build (5, 25, 14, 7)
+    (0x3fe9_9999_9999_999a ∷ 0 ∷ 0 ∷ 0 ∷ [])
+    -- past hi on axis 1
+    ∷ (0xc014_cccc_cccc_ccce ∷ 0 ∷ 0 ∷ 0 ∷ [])
+    ∷ (0x3fe9_9999_9999_999a ∷ 0x3ff0_0000_0000_0000 ∷ 0 ∷ 0 ∷ [])
+    ∷ (0x3fe9_9999_9999_999a ∷ 0 ∷ 0x3ff0_0000_0000_0000 ∷ 0 ∷ [])
+    -- fr 4 is below f1 5: e; past hi on axis 1
+    ∷ (0xc00e_6666_6666_6668 ∷ 0x3fe2_2222_2222_2222 ∷ 0x3fe2_2222_2222_2222 ∷ 0 ∷ [])
+    -- from an r that was brought round on axis 1
+    ∷ (0xc01f_c28f_5c28_f5c3 ∷ 0x3fe8_da74_0da7_40da ∷ 0x3fe8_da74_0da7_40da ∷ 0 ∷ [])
     ∷ []
 
 -- what the rules give, search by search
@@ -197,31 +251,70 @@ unfoldable pub ring_walks_given : List (List (List ℕ))
 ring_walks_given =
     walk_by asked_counted (begun rotator) rotator_costs
     ∷ walk_by asked_counted (begun from_lo) from_lo_costs
-    ∷ walk_by asked_counted (begun rotators) rotators_costs
-    ∷ walk_by asked_counted (begun near_hi) near_hi_costs
+    ∷ walk_by asked_counted (begun two_rings) two_rings_costs
+    ∷ walk_by asked_counted (begun (near_hi 100)) probed_costs
+    ∷ walk_by asked_counted (begun (near_hi 1)) drawn_costs
+    ∷ walk_by asked_counted (begun high) high_costs
     ∷ []
 
 -- what document 02 says of each, in this order
 unfoldable pub ring_walks_stated : List (List (List ℕ))
-ring_walks_stated = rotator_trials ∷ from_lo_trials ∷ rotators_trials ∷ near_hi_trials ∷ []
+ring_walks_stated = rotator_trials ∷ from_lo_trials ∷ two_rings_trials ∷ probed_trials ∷ drawn_trials ∷ high_trials ∷ []
 
--- their openings
+-- ---- plain numbers
+
+-- one ring from −8 to 8 that starts at 7.5, step 1, under this rule, with the usual coefficients: the build asks 7.5 and −7.5
+abbrev pub across : Rule → Opening
+across rule =
+    record {
+      n = 1;
+      axes = ring_at 0xc020_0000_0000_0000 0x4020_0000_0000_0000 0x401e_0000_0000_0000 0x3ff0_0000_0000_0000 ∷ replicate 7 zero_axis;
+      rule = Some rule;
+      coefficients = usual;
+      budget = 100;
+    }
+
+-- the trial that a search asks after these costs
+abbrev pub asked_after : Opening → List ℕ → List ℕ
+asked_after o cs = asked_counted (after_costs (begun o) cs)
+
+-- what the rules give of c, of moved and of size, which know of no ring
+unfoldable pub plain_given : List (List ℕ)
+plain_given =
+    -- c is hi of the ring: the outside point (fr 20 is below fw 25), and the inside point (fr 30 is not)
+    asked_after high (5 ∷ 25 ∷ 14 ∷ 7 ∷ 20 ∷ []) ∷ asked_after high (5 ∷ 25 ∷ 14 ∷ 7 ∷ 30 ∷ [])
+    -- moved: the outside point at −7 takes the place of 7.5, and goes 14.5, not 1.5: 210.25 is < E·1 for E just above it only
+    ∷ asked_after (across (Moved (bits 0x406a_4800_0000_0000))) (10 ∷ 5 ∷ 7 ∷ 6 ∷ [])
+    ∷ asked_after (across (Moved (bits 0x406a_4800_0000_0001))) (10 ∷ 5 ∷ 7 ∷ 6 ∷ [])
+    -- size: 7.5 is 15 from −7.5, not 1: 225 is ≤ E²·56.25 from E 2 on
+    ∷ asked_after (across (Size (bits 0x4000_0000_0000_0000))) (10 ∷ 5 ∷ []) ∷ asked_after (across (Size (bits 0x3fff_ffff_ffff_ffff))) (10 ∷ 5 ∷ [])
+    ∷ []
+
+-- what document 02 says of each, in this order: a probe where the rule is met, else r
+unfoldable pub plain_stated : List (List ℕ)
+plain_stated =
+    (0xbfe2_8f5c_28f5_c28f ∷ 0x3fd9_d036_9d03_69d0 ∷ 0x3fd9_d036_9d03_69d0 ∷ 0 ∷ [])
+    ∷ (0xbff0_0000_0000_0000 ∷ 0x3fcd_dddd_dddd_ddde ∷ 0x3fcd_dddd_dddd_ddde ∷ 0 ∷ [])
+    ∷ (0xc020_0000_0000_0000 ∷ 0 ∷ [])
+    ∷ (0xc01d_ff00_0000_0000 ∷ 0 ∷ [])
+    ∷ (0xc01d_ff00_0000_0000 ∷ 0 ∷ []) ∷ (0xc01a_0000_0000_0000 ∷ 0 ∷ [])
+    ∷ []
+
+-- the openings of these searches
 unfoldable pub ring_judged_given : List Verdict
-ring_judged_given = judged rotator ∷ judged from_lo ∷ judged rotators ∷ judged near_hi ∷ []
+ring_judged_given =
+    judged rotator ∷ judged from_lo ∷ judged two_rings ∷ judged (near_hi 100) ∷ judged (near_hi 1) ∷ judged high
+    ∷ judged (across (Moved (bits 0x406a_4800_0000_0000))) ∷ judged (across (Size (bits 0x4000_0000_0000_0000))) ∷ []
 
 -- are not refused
 unfoldable pub ring_judged_stated : List Verdict
-ring_judged_stated = replicate 4 (Ok tt)
+ring_judged_stated = replicate 8 (Ok tt)
 
 -- ---- searches that no calls make
 
 -- a ring of these limits, with start 0 and step 1.1
 abbrev pub ring_limits : ℕ → ℕ → Axis
 ring_limits lo hi = record (limits lo hi) { ring = true }
-
--- the search `narrow` after the first k costs, with these two axes
-abbrev pub over : ℕ → Axis → Axis → Search
-over k x y = with_limits x y past (at narrow narrow_costs k)
 
 -- what the rules give: the coordinates, and then the stops
 unfoldable pub ring_limited_given : List (List ℕ)
@@ -232,7 +325,7 @@ ring_limited_given =
     -- a build along axis 1, and a probe along it, while axis 2, a ring that they leave alone, is turned
     ∷ asked_counted (over 1 (limits 0 0x4010_0000_0000_0000) (ring_limits 0x3fe0_0000_0000_0000 0x3fe3_3333_3333_3333))
     ∷ asked_counted (with_phase (Probing 0) (over 3 (ring_limits 0xc020_0000_0000_0000 0x4020_0000_0000_0000) (ring_limits 0 0x3fe0_0000_0000_0000)))
-    -- a build steps over the end of a ring, which is no ring for the clamp: on the other axis it steps back
+    -- a build steps over hi of the ring, and is brought round; along the other axis it steps back, and is clamped to lo
     ∷ asked_counted (over 1 (ring_limits 0 0x3ff8_0000_0000_0000) (limits 0 0x3ff0_0000_0000_0000))
     ∷ asked_counted (over 2 (ring_limits 0 0x3ff8_0000_0000_0000) (limits 0 0x3ff0_0000_0000_0000))
     -- lo above hi on both; a NaN at either end

@@ -154,23 +154,23 @@ abbrev pub past : Axis
 past = limits 0x3ff0_0000_0000_0000 0x4000_0000_0000_0000
 
 -- the search `narrow` after the first k costs, with these limits on its two axes
-abbrev pub within : ℕ → Axis → Axis → Search
-within k x y = with_limits x y past (at narrow narrow_costs k)
+abbrev pub over : ℕ → Axis → Axis → Search
+over k x y = with_limits x y past (at narrow narrow_costs k)
 
 -- what the rules give of searches with other limits: the coordinates, and then the stops
 unfoldable pub limited_given : List (List ℕ)
 limited_given =
     -- a shrink, both of whose coordinates lie outside
-    asked_counted (within 9 (limits 0 0x3ff0_0000_0000_0000) (limits 0xbfe0_0000_0000_0000 0x3fe0_0000_0000_0000))
+    asked_counted (over 9 (limits 0 0x3ff0_0000_0000_0000) (limits 0xbfe0_0000_0000_0000 0x3fe0_0000_0000_0000))
     -- a build and a probe along axis 1, while axis 2, which they leave alone, lies outside
-    ∷ asked_counted (within 1 (limits 0 0x4010_0000_0000_0000) (limits 0x3fe0_0000_0000_0000 0x3fe3_3333_3333_3333))
-    ∷ asked_counted (with_phase (Probing 0) (within 3 (limits 0xc020_0000_0000_0000 0x4020_0000_0000_0000) (limits 0 0x3fe0_0000_0000_0000)))
+    ∷ asked_counted (over 1 (limits 0 0x4010_0000_0000_0000) (limits 0x3fe0_0000_0000_0000 0x3fe3_3333_3333_3333))
+    ∷ asked_counted (with_phase (Probing 0) (over 3 (limits 0xc020_0000_0000_0000 0x4020_0000_0000_0000) (limits 0 0x3fe0_0000_0000_0000)))
     -- r stands on both limits of axis 1, and on lo of axis 2; one float inside of it they stop it
-    ∷ asked_counted (within 3 (limits 0xbfb1_eb85_1eb8_51f0 0xbfb1_eb85_1eb8_51f0) (limits 0xbfd8_51eb_851e_b852 0xbfd8_51eb_851e_b851))
-    ∷ asked_counted (within 3 (limits 0xbfb1_eb85_1eb8_51ef 0x3ff0_0000_0000_0000) (limits 0xc000_0000_0000_0000 0xbfd8_51eb_851e_b853))
+    ∷ asked_counted (over 3 (limits 0xbfb1_eb85_1eb8_51f0 0xbfb1_eb85_1eb8_51f0) (limits 0xbfd8_51eb_851e_b852 0xbfd8_51eb_851e_b851))
+    ∷ asked_counted (over 3 (limits 0xbfb1_eb85_1eb8_51ef 0x3ff0_0000_0000_0000) (limits 0xc000_0000_0000_0000 0xbfd8_51eb_851e_b853))
     -- lo above hi: r is below lo on axis 1; not below it on axis 2, and above hi. A NaN stops whatever comes, at either end
-    ∷ asked_counted (within 3 (limits 0x3ff0_0000_0000_0000 0xbff0_0000_0000_0000) (limits 0xbfd8_51eb_851e_b852 0xbfe0_0000_0000_0000))
-    ∷ asked_counted (within 3 (limits 0x7ff8_0000_0000_0000 0x4020_0000_0000_0000) (limits 0xc020_0000_0000_0000 0x7ff8_0000_0000_0000))
+    ∷ asked_counted (over 3 (limits 0x3ff0_0000_0000_0000 0xbff0_0000_0000_0000) (limits 0xbfd8_51eb_851e_b852 0xbfe0_0000_0000_0000))
+    ∷ asked_counted (over 3 (limits 0x7ff8_0000_0000_0000 0x4020_0000_0000_0000) (limits 0xc020_0000_0000_0000 0x7ff8_0000_0000_0000))
     ∷ []
 
 -- what docs/REPLAY.md says of each, in this order
@@ -192,7 +192,7 @@ unfoldable pub asks_given : List (List ℕ)
 asks_given =
     -- an e that one axis stops, and a shrink that two do; past n nothing shows, and nothing counts
     answer (asking (at narrow narrow_costs 4))
-    ∷ answer (asking (within 9 (limits 0 0x3ff0_0000_0000_0000) (limits 0xbfe0_0000_0000_0000 0x3fe0_0000_0000_0000)))
+    ∷ answer (asking (over 9 (limits 0 0x3ff0_0000_0000_0000) (limits 0xbfe0_0000_0000_0000 0x3fe0_0000_0000_0000)))
     -- an ended search
     ∷ answer (asking (with_phase (Ended Settled) (at narrow narrow_costs 4)))
     ∷ []

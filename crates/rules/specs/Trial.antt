@@ -19,7 +19,7 @@ no_axis = record { lo = nan; hi = nan; start = nan; step = nan; ring = false }
 abbrev pub axis : Setup → ℕ → Axis
 axis t a = get_or t.axes a no_axis
 
--- the one way of a number into an axis: it is clamped, "on a ring" it is brought round
+-- the one way of a number into an axis: it is clamped; "On a ring" it is brought round
 abbrev pub brought_in : Axis → Float → Float
 brought_in x v = cond x.ring (brought_round x.lo x.hi v) (clamp x.lo x.hi v)
 
@@ -27,9 +27,9 @@ brought_in x v = cond x.ring (brought_round x.lo x.hi v) (clamp x.lo x.hi v)
 abbrev pub at_stop : Axis → Float → Bool
 at_stop x v = cond x.ring false (clamp_changes x.lo x.hi v)
 
--- "Every trial is clamped axis by axis"
-abbrev pub clamped : Setup → ℕ → Float → Float
-clamped t a v = brought_in (axis t a) v
+-- v brought into axis a: "Every trial is clamped axis by axis"
+abbrev pub brought : Setup → ℕ → Float → Float
+brought t a v = brought_in (axis t a) v
 
 -- whether v is stopped on axis a
 abbrev pub stopped : Setup → ℕ → Float → Bool
@@ -58,7 +58,7 @@ away t ps a = let c = centroid t.n ps a in move c t.coefficients.alpha c (entry 
 
 -- "Reflected r", of which "r is the clamped point"
 abbrev pub reflected : Setup → List Float → ℕ → Float
-reflected t ps a = clamped t a (away t ps a)
+reflected t ps a = brought t a (away t ps a)
 
 -- "c + χ·(r − c)" of e and "c + β·(r − c)" of the outside point, k being χ or β
 abbrev pub toward_reflected : Setup → List Float → Float → ℕ → Float
@@ -84,7 +84,7 @@ build_step x v i a = cond (eqb i (suc a)) (stepped x v) v
 abbrev pub probe_step : Axis → Float → ℕ → ℕ → Float
 probe_step x v p a = let d = x.step ⊗ probe_factor in cond (eqb (p / 2) a) (cond (eqb (p % 2) 0) (v ⊕ d) (v ⊖ d)) v
 
--- coordinate a of the point that the search s is after in each phase, before the clamp; an ended search is after none
+-- coordinate a of the point that the search s is after in each phase, before it is brought in; an ended search is after none
 abbrev pub target : Search → Phase → ℕ → Float
 target s (Building i) a = build_step (axis s.setup a) (get_or s.center a nan) i a
 target s Reflecting a = away s.setup s.standing.points a
@@ -95,14 +95,14 @@ target s (Shrinking j) a = shrunk s.setup s.standing.points j a
 target s (Probing p) a = probe_step (axis s.setup a) (get_or s.best.point a nan) p a
 target s (Ended cause) a = nan
 
--- how many of the first k axes "were so changed", f being the numbers before the clamp
+-- how many of the first k axes "were so changed", f being the numbers before they are brought in
 unfoldable pub stops_to : Setup → (ℕ → Float) → ℕ → ℕ
 stops_to t f zero = 0
 stops_to t f (suc k) = stops_to t f k + cond (stopped t k (f k)) 1 0
 
 -- the numbers f of the first n axes as a trial: "Every trial is clamped axis by axis", and "carries how many axes were so changed"
 abbrev pub made : Setup → ℕ → (ℕ → Float) → Trial
-made t n f = record { point = point n (λ a. clamped t a (f a)); stops = stops_to t f n }
+made t n f = record { point = point n (λ a. brought t a (f a)); stops = stops_to t f n }
 
 -- the trial that the search s would ask in each phase
 abbrev pub trial_in : Phase → Search → Trial

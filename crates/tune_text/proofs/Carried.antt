@@ -12,7 +12,7 @@ use lib.Dec.{leb, ltb}
 use borrow.Author.Tests.{eq-eqb}
 use Rattle.rules.specs.Numbers.{max_cost, usual}
 use Rattle.rules.specs.Refusals.{Verdict, number_of, check}
-use Rattle.rules.specs.Opening.{all_in_range, in_limits, in_ring, in_step, zero_axis, axes_checks, in_coefficients, in_threshold, open_verdict, opening}
+use Rattle.rules.specs.Opening.{all_in_range, in_limits, in_ring, in_step, axes_checks, in_coefficients, in_threshold, open_verdict, opening}
 use Rattle.rules.specs.Trial.{no_axis, trial}
 use Rattle.rules.specs.View.{is_ended}
 use Rattle.rules.specs.Calls.{undamaged, tell_verdict, asking, telling, showing}
@@ -46,56 +46,56 @@ use Rattle.tune_text.proofs.Laws.Running.{step_cases}
 
 -- ---- the steps
 
--- no axis that is read is a ring
-abbrev pub NoRing : Request → Type 0
-NoRing q = (a : ℕ) → (get_or q.axes a no_axis).ring ≡ false
+-- none of these axes is a ring
+abbrev pub NoRing : List Axis → Type 0
+NoRing xs = (a : ℕ) → (get_or xs a no_axis).ring ≡ false
 
 -- what is read so far: no ring; and where costs are read, the search is one that an accepted opening and calls have made
 record Kept (p : Progress) : Type 0 where
-  rings : NoRing p.request
+  no_ring : NoRing p.request.axes
   made : p.stage ≡ Costs → Carried p
 
 -- no costs are read once all is done
-done_kept : (q : Request) (s : Search) → NoRing q → Kept (record { stage = Done; request = q; search = s })
-done_kept q s n = record { rings = n; made = λ e. let none : ⊥ = cc in absurd none }
+done_kept : (q : Request) (s : Search) → NoRing q.axes → Kept (record { stage = Done; request = q; search = s })
+done_kept q s n = record { no_ring = n; made = λ e. let none : ⊥ = cc in absurd none }
 
 -- no costs are read where an axis line follows
-axes_kept : (k : ℕ) (q : Request) (s : Search) → NoRing q → Kept (record { stage = Axes k; request = q; search = s })
-axes_kept k q s n = record { rings = n; made = λ e. let none : ⊥ = cc in absurd none }
+axes_kept : (k : ℕ) (q : Request) (s : Search) → NoRing q.axes → Kept (record { stage = Axes k; request = q; search = s })
+axes_kept k q s n = record { no_ring = n; made = λ e. let none : ⊥ = cc in absurd none }
 
 -- the opening makes its search by no call
-opening_turn_kept : (q : Request) → NoRing q → Kept (opening_turn q).progress
+opening_turn_kept : (q : Request) → NoRing q.axes → Kept (opening_turn q).progress
 unfolding after
 opening_turn_kept q n = go (opening_of q).verdict refl
   where
     go : (v : Verdict) → (opening_of q).verdict ≡ v → Kept (turn_opened v q (opening_of q).search).progress
-    go (Ok _) e = record { rings = n; made = λ c. record { accepted = e; calls = []; made = refl } }
+    go (Ok _) e = record { no_ring = n; made = λ c. record { accepted = e; calls = []; made = refl } }
     go (Err r) e = done_kept q (opening_of q).search n
 
 -- `Kept` holds after k axis lines, where the next axis line follows or the opening
-axes_read_kept : (k : ℕ) (q : Request) (s : Search) → NoRing q → Kept (axes_read k q s).progress
+axes_read_kept : (k : ℕ) (q : Request) (s : Search) → NoRing q.axes → Kept (axes_read k q s).progress
 unfolding axes_read
 axes_read_kept k q s n =
     cond_both (ltb k (axis_lines q.n)) _ _ (λ (t : Turned). Kept t.progress) (λ e. axes_kept k q s n) (λ e. opening_turn_kept q n)
 
 -- the first line names no ring
-head_rings : (vs : List ℕ) → NoRing (request_of vs)
-head_rings vs a = grind (arith, places)
+head_no_ring : (vs : List ℕ) → NoRing (request_of vs).axes
+head_no_ring vs a = grind (arith, places)
 
 -- one axis that is no ring, put among such
-set_rings : (xs : List Axis) (k a : ℕ) (x : Axis) → x.ring ≡ false → ((b : ℕ) → (get_or xs b no_axis).ring ≡ false) → (get_or (set xs k x) a no_axis).ring ≡ false
-set_rings [] k a x e n = refl
-set_rings (y ∷ ys) zero zero x e n = e
-set_rings (y ∷ ys) zero (suc a) x e n = n (suc a)
-set_rings (y ∷ ys) (suc k) zero x e n = n 0
-set_rings (y ∷ ys) (suc k) (suc a) x e n = set_rings ys k a x e (λ b. n (suc b))
+set_no_ring : (xs : List Axis) (k : ℕ) (x : Axis) → x.ring ≡ false → NoRing xs → NoRing (set xs k x)
+set_no_ring [] k x e n a = refl
+set_no_ring (y ∷ ys) zero x e n zero = e
+set_no_ring (y ∷ ys) zero x e n (suc a) = n (suc a)
+set_no_ring (y ∷ ys) (suc k) x e n zero = n 0
+set_no_ring (y ∷ ys) (suc k) x e n (suc a) = set_no_ring ys k x e (λ b. n (suc b)) a
 
 -- an axis line adds none
-axis_rings : (k : ℕ) (vs : List ℕ) (q : Request) → NoRing q → NoRing (with_axis k (axis_from vs) q)
-axis_rings k vs q n a = set_rings q.axes k a (axis_from vs) refl n
+axis_no_ring : (k : ℕ) (vs : List ℕ) (q : Request) → NoRing q.axes → NoRing (with_axis k (axis_from vs) q).axes
+axis_no_ring k vs q n = set_no_ring q.axes k (axis_from vs) refl n
 
 -- a cost line is one call more
-told_kept : (p : Progress) (cost : ℕ) → NoRing p.request → Carried p → Kept (cost_told p cost).progress
+told_kept : (p : Progress) (cost : ℕ) → NoRing p.request.axes → Carried p → Kept (cost_told p cost).progress
 unfolding cost_told
 told_kept p cost n c = go (asking p.search)
   where
@@ -103,7 +103,7 @@ told_kept p cost n c = go (asking p.search)
     told a (Ok _) d =
         let call = tell a.number cost in
         record {
-          rings = n;
+          no_ring = n;
           made = λ e. record {
             accepted = c.accepted;
             calls = c.calls ++ call ∷ [];
@@ -121,20 +121,20 @@ line_kept : (stage : Stage) (p : Progress) (i : ℕ) (line : List ℕ) → p.sta
 unfolding line_read
 line_kept Head p i line e h =
     cond_both (is_line whole_number 3 line) _ _ (λ (t : Turned). Kept t.progress)
-    (λ w. axes_read_kept 0 (request_of (values whole_number line)) p.search (head_rings (values whole_number line))) (λ w. done_kept p.request p.search h.rings)
+    (λ w. axes_read_kept 0 (request_of (values whole_number line)) p.search (head_no_ring (values whole_number line))) (λ w. done_kept p.request p.search h.no_ring)
 line_kept (Axes k) p i line e h =
     cond_both (is_line hexadecimal 4 line) _ _ (λ (t : Turned). Kept t.progress)
-    (λ w. axes_read_kept (suc k) (with_axis k (axis_from (values hexadecimal line)) p.request) p.search (axis_rings k (values hexadecimal line) p.request h.rings))
-    (λ w. done_kept p.request p.search h.rings)
+    (λ w. axes_read_kept (suc k) (with_axis k (axis_from (values hexadecimal line)) p.request) p.search (axis_no_ring k (values hexadecimal line) p.request h.no_ring))
+    (λ w. done_kept p.request p.search h.no_ring)
 line_kept Costs p i line e h =
     cond_both (is_line whole_number 1 line) _ _ (λ (t : Turned). Kept t.progress)
-    (λ w. told_kept p (get_or (values whole_number line) 0 0) h.rings (h.made e)) (λ w. done_kept p.request p.search h.rings)
+    (λ w. told_kept p (get_or (values whole_number line) 0 0) h.no_ring (h.made e)) (λ w. done_kept p.request p.search h.no_ring)
 line_kept Done p i line e h = h
 
 -- `Kept` holds after a step where it held before
 step_kept : (bytes : List ℕ) (s : State) → Kept s.progress → Kept (stepping bytes s).state.progress
 step_kept bytes s h =
-    let last = done_kept s.progress.request s.progress.search h.rings in
+    let last = done_kept s.progress.request s.progress.search h.no_ring in
     step_cases bytes s (λ (r : Stepped). Kept r.state.progress)
     (λ d. h) (λ d l. last) (λ d l o. last) (λ d l o e. line_kept s.progress.stage s.progress s.line _ refl h) (λ d l o e. last)
 
@@ -147,7 +147,7 @@ run_kept (suc k) bytes s h = run_kept k bytes (stepping bytes s).state (step_kep
 -- `Kept` holds after any number of steps
 always_kept : (bytes : List ℕ) (k : ℕ) → Kept (state_after k bytes first_state).progress
 unfolding first_state nothing_read
-always_kept bytes k = run_kept k bytes first_state (record { rings = head_rings []; made = λ e. let none : ⊥ = cc in absurd none })
+always_kept bytes k = run_kept k bytes first_state (record { no_ring = head_no_ring []; made = λ e. let none : ⊥ = cc in absurd none })
 
 -- where costs are read, an accepted opening and calls have made the search
 pub carried : (bytes : List ℕ) (k : ℕ) → (state_after k bytes first_state).progress.stage ≡ Costs → Carried (state_after k bytes first_state).progress
@@ -220,11 +220,11 @@ check_so : (b : Bool) (r : Refusal) {v : Verdict} → OfOpening r → AtOpening 
 check_so b r o h = check_elim AtOpening b (λ e. h) (λ e x q. let d : r ≡ x = cc in rw (← d) o)
 
 -- an axis that is no ring passes check 13
-no_ring : (x : Axis) → x.ring ≡ false → in_ring x ≡ true
-no_ring x e = rw e refl
+passes_13 : (x : Axis) → x.ring ≡ false → in_ring x ≡ true
+passes_13 x e = rw e refl
 
 -- the checks of k axes, none of them a ring, before checks whose verdict is `AtOpening`, give a verdict that is `AtOpening`
-axes_so : (k i : ℕ) (xs : List Axis) (v : Verdict) → ((a : ℕ) → (get_or xs a no_axis).ring ≡ false) → AtOpening v → AtOpening (axes_checks k i xs v)
+axes_so : (k i : ℕ) (xs : List Axis) (v : Verdict) → NoRing xs → AtOpening v → AtOpening (axes_checks k i xs v)
 unfolding axes_checks
 axes_so zero i xs v n h = h
 axes_so (suc k) i xs v n h =
@@ -232,15 +232,15 @@ axes_so (suc k) i xs v n h =
     (check_so (in_limits (get_or xs i no_axis)) (BadLimits (i + 1)) (omega arith, omega arith, λ e. omega arith)
     (check_elim AtOpening (in_ring (get_or xs i no_axis)) {r = RingAtHi (i + 1)}
     (λ e. check_so (in_step (get_or xs i no_axis)) (BadStep (i + 1)) (omega arith, omega arith, λ e. omega arith) (axes_so k (suc i) xs v n h))
-    (λ e. absurd (true≢false (sym (no_ring (get_or xs i no_axis) (n i)) ∙ e)))))
+    (λ e. absurd (true≢false (sym (passes_13 (get_or xs i no_axis) (n i)) ∙ e)))))
 
 -- the usual coefficients pass
 usual_pass : in_coefficients usual ≡ true
 unfolding floats
 usual_pass = refl
 
--- an opening without rings that lines ask for is refused only as 1, 2, 3, 4, 6 or 7
-opening_so : (q : Request) → NoRing q → (r : Refusal) → (opening_of q).verdict ≡ Err r → OfOpening r
+-- a request without rings is refused only as 1, 2, 3, 4, 6 or 7
+opening_so : (q : Request) → NoRing q.axes → (r : Refusal) → (opening_of q).verdict ≡ Err r → OfOpening r
 unfolding opening open_verdict
 opening_so q n =
     let last : AtOpening (Ok tt) = λ r e. let none : ⊥ = cc in absurd none in
@@ -250,6 +250,6 @@ opening_so q n =
     let axes = axes_so q.n 0 q.axes _ n coefficients in
     rw opened_by_verdict (check_so (leb 1 q.n && leb q.n 8) AxisCount (omega arith, omega arith, λ e. omega arith) axes)
 
--- so is the one that the lines of any input ask for, after any number of steps
+-- so is what any number of steps have read of any input
 pub opening_refusals : (bytes : List ℕ) (k : ℕ) (r : Refusal) → (opening_of (state_after k bytes first_state).progress.request).verdict ≡ Err r → OfOpening r
-opening_refusals bytes k = opening_so (state_after k bytes first_state).progress.request (always_kept bytes k).rings
+opening_refusals bytes k = opening_so (state_after k bytes first_state).progress.request (always_kept bytes k).no_ring

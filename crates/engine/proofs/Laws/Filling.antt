@@ -10,7 +10,7 @@ use lib.Seq.{set_at, append_snoc}
 use lib.Ieee.{Float, nan}
 use Rattle.rules.specs.Binary64.{0ᶠ, ◌⊕◌}
 use Rattle.rules.specs.Simplex.{up_to, point}
-use Rattle.rules.specs.Trial.{clamped, stopped, stops_to, made, entry, sum_to}
+use Rattle.rules.specs.Trial.{brought, stopped, stops_to, made, entry, sum_to}
 use Rattle.rules.specs.declared.Setup.{Setup}
 use Rattle.rules.specs.declared.Trial.{Trial}
 use Rattle.rules.proofs.Laws.Lists.{length_up_to, get_or_point}
@@ -25,11 +25,11 @@ point_more f j xs x h p e =
 
 -- the next axis is put to the trial of those before it
 pub made_more : (t : Setup) (f : ℕ → Float) (j : ℕ) (x : Trial) (v : Float) → j < 8 → x ≡ made t j f → v ≡ f j
-    → record { point = set x.point j (clamped t j v); stops = x.stops + cond (stopped t j v) 1 0 } ≡ made t (j + 1) f
+    → record { point = set x.point j (brought t j v); stops = x.stops + cond (stopped t j v) 1 0 } ≡ made t (j + 1) f
 unfolding stops_to
 made_more t f j x v h p e =
-    let points : set x.point j (clamped t j v) ≡ point (j + 1) (λ a. clamped t a (f a)) =
-    point_more (λ a. clamped t a (f a)) j x.point (clamped t j v) h (ap (λ (y : Trial). y.point) p) (ap (λ (u : Float). clamped t j u) e) in
+    let points : set x.point j (brought t j v) ≡ point (j + 1) (λ a. brought t a (f a)) =
+    point_more (λ a. brought t a (f a)) j x.point (brought t j v) h (ap (λ (y : Trial). y.point) p) (ap (λ (u : Float). brought t j u) e) in
     let counts : x.stops + cond (stopped t j v) 1 0 ≡ stops_to t f (j + 1) = rw (p, e, add-one) refl in
     λ i. record { point = points i; stops = counts i }
 

@@ -1,10 +1,10 @@
 -- A number brought into an axis: clamped, or round on a ring. Assumes nothing.
-use mathlib.Core.Path.{◌≡◌, refl, sym, ◌∙◌}
-use mathlib.Core.Bool.{Bool, true, false, true≢false, cond, ◌&&◌, and-eq-true_iff}
+use mathlib.Core.Path.{◌≡◌, refl, sym}
+use mathlib.Core.Bool.{true, false, true≢false, and-eq-true_iff}
 use mathlib.Core.Logic.{◌↔◌, ◌⊎◌, ⊎_elim}
 use lib.Ieee.{Float, nan}
 use Rattle.std.proofs.lemmas.Bool.{cases_Bool}
-use Rattle.rules.specs.Binary64.{brought_round, ◌≤ᶠ◌, ◌<ᶠ◌}
+use Rattle.rules.specs.Binary64.{brought_round, ◌<ᶠ◌}
 use Rattle.rules.specs.Trial.{brought_in, at_stop}
 use Rattle.rules.specs.Claims.{within}
 use Rattle.rules.specs.declared.Axis.{Axis}

@@ -8,12 +8,12 @@ use Prim.Native.Nat.{ℕ, zero, suc, suc-le-suc, ◌+◌, ◌≤◌, ◌<◌}
 use native.Mathlib.Nat.{eq-or-lt_of_le}
 use native.Mathlib.Omega.{arith}
 use lib.ListN.{length, get_or}
-use lib.Ieee.{Float, lt}
+use lib.Ieee.{lt}
 use borrow.Author.Tests.{leb-true}
 use Rattle.std.proofs.lemmas.List.{places}
-use Rattle.rules.specs.Binary64.{◌≤ᶠ◌, ◌<ᶠ◌}
+use Rattle.rules.specs.Binary64.{◌<ᶠ◌}
 use Rattle.rules.specs.Numbers.{max_budget}
-use Rattle.rules.specs.Trial.{no_axis, axis, clamped, target, trial}
+use Rattle.rules.specs.Trial.{no_axis, axis, brought, target, trial}
 use Rattle.rules.specs.Refusals.{Verdict, check, answered}
 use Rattle.rules.specs.Opening.{in_threshold, axis_checks, axes_checks, rule_of, keep, fresh, opened_by, open_verdict, opening}
 use Rattle.rules.specs.Calls.{sound_rule}
@@ -133,7 +133,7 @@ module _ (n : ℕ) (axes : List Axis) (rule : Option Rule) (c : Coefficients) (b
 -- every trial lies within its limits
 pub trial_within : (s : Search) → Sane s.setup → Within s.setup (trial s).point
 unfolding trial
-trial_within s h a l = rw (get_or_point s.setup.n (λ b. clamped s.setup b (target s s.phase b)) a l) (brought_within (axis s.setup a) (target s s.phase a) (h.limits a l))
+trial_within s h a l = rw (get_or_point s.setup.n (λ b. brought s.setup b (target s s.phase b)) a l) (brought_within (axis s.setup a) (target s s.phase a) (h.limits a l))
 
 -- its stops count the axes on which the clamp acts
 pub trial_stops : (s : Search) → Sane s.setup → StopsOf s.setup (target s s.phase) (trial s)

@@ -1,6 +1,6 @@
 -- The turn of a ring, by its own comparisons, for any two floats lo and hi. Assumes nothing.
 use mathlib.Core.Path.{◌≡◌, refl, sym, ◌∙◌}
-use mathlib.Core.Bool.{Bool, true, false, true≢false, cond, ◌&&◌, and-eq-true_iff}
+use mathlib.Core.Bool.{true, false, true≢false, ◌&&◌, and-eq-true_iff}
 use mathlib.Core.Logic.{⊎_elim}
 use lib.Ieee.{Float, nan, add}
 use Rattle.std.proofs.lemmas.Bool.{cases_Bool, cond_both}
@@ -9,7 +9,8 @@ use Rattle.rules.specs.Binary64.{turned, brought_round, ◌≤ᶠ◌, ◌<ᶠ◌
 use Rattle.rules.proofs.Laws.Clamp.{lt_le, le_number, le_nan, pass}
 
 -- what holds of lo, and of whatever lies between lo and hi, holds of a number brought round
-round_elim : (P : Float → Type 0) (lo hi v : Float) → P lo → ((u : Float) → (lo ≤ᶠ u) ≡ true → (u <ᶠ hi) ≡ true → P u) → P (brought_round lo hi v)
+round_elim : (P : Float → Type 0) (lo hi v : Float) → P lo → ((u : Float) → (lo ≤ᶠ u) ≡ true → (u <ᶠ hi) ≡ true → P u)
+    → P (brought_round lo hi v)
 round_elim P lo hi v l m =
     let u = turned lo hi v in
     cond_both ((lo ≤ᶠ u) && (u <ᶠ hi)) u lo P (λ e. let both = simp and-eq-true_iff at e in m u both.0 both.1) (λ e. l)

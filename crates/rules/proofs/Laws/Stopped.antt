@@ -10,9 +10,9 @@ use native.Mathlib.Omega.{arith}
 use lib.ListN.{length, get_or, length-append, get_or-append}
 use lib.Seq.{get_or-append_seam}
 use lib.Ieee.{Float, nan}
-use Rattle.std.proofs.lemmas.Bool.{cases_Bool, cases_lt, cond_both, false_from_ne_true}
+use Rattle.std.proofs.lemmas.Bool.{cases_Bool, cases_lt, cond_both}
 use Rattle.rules.specs.Binary64.{◌<ᶠ◌}
-use Rattle.rules.specs.Trial.{axis, clamped, stopped, stops_to, made}
+use Rattle.rules.specs.Trial.{axis, brought, stopped, stops_to, made}
 use Rattle.rules.specs.Claims.{StopsOf}
 use Rattle.rules.specs.declared.Setup.{Setup}
 use Rattle.rules.proofs.Laws.Lists.{get_or_point, mem_get_or}
@@ -112,7 +112,7 @@ module _ (t : Setup) (f : ℕ → Float) where
   pub stops_of : ((a : ℕ) → a < t.n → ((axis t a).lo <ᶠ (axis t a).hi) ≡ true) → StopsOf t f (made t t.n f)
   stops_of ordered =
       let l = lists t.n in
-      let point_at : (a : ℕ) → a < t.n → get_or (made t t.n f).point a nan ≡ clamped t a (f a) = λ a m. get_or_point t.n (λ b. clamped t b (f b)) a m in
+      let point_at : (a : ℕ) → a < t.n → get_or (made t t.n f).point a nan ≡ brought t a (f a) = λ a m. get_or_point t.n (λ b. brought t b (f b)) a m in
       let tests = λ (a : ℕ). stop_outside (axis t a) (f a) in
       record {
         axes = counted_axes t.n;

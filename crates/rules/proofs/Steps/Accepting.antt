@@ -6,7 +6,7 @@ use Prim.Native.Nat.{ℕ, ◌≤◌}
 use native.Mathlib.Omega.{arith}
 use Rattle.rules.specs.Numbers.{max_cost}
 use Rattle.rules.specs.View.{is_ended}
-use Rattle.rules.specs.Trial.{clamped, target, trial}
+use Rattle.rules.specs.Trial.{brought, target, trial}
 use Rattle.rules.specs.Decide.{decided}
 use Rattle.rules.specs.Accept.{reading_of, accept}
 use Rattle.rules.specs.History.{Event, told, step}
@@ -44,7 +44,7 @@ module _ (rs : List Vertex) (v : Vertex) (s : Search) (inv : Inv rs s) (after : 
 trial_shape : (s : Search) (c : ℕ) → s.setup.n ≤ 8 → c ≤ max_cost → ReadingShape s.setup.n (reading_of s c)
 unfolding trial
 trial_shape s c l h =
-    let f = λ (a : ℕ). clamped s.setup a (target s s.phase a) in
+    let f = λ (a : ℕ). brought s.setup a (target s s.phase a) in
     record { shape = point_again s.setup.n f; eight = length_point s.setup.n f l; low = h; numbered = omega arith }
 
 module _ (rs : List Vertex) (s : Search) (inv : Inv rs s) (below : BelowBudget s) where
