@@ -10,7 +10,7 @@ const MAX_NUMBER: f64 = 1_048_576.0;
 const UNNAMED: Rule = Rule::Spread(4);
 
 impl Search {
-    /// Opens a search, or refuses by the first check that fails in table order.
+    /// Opens a search, or refuses by the first check that fails: in table order, and 13 just after 3.
     pub fn open(
         n: u64,
         axes: &[Axis; 8],

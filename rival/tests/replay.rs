@@ -210,15 +210,12 @@ fn rings_of_an_opening() {
     );
 }
 
-/// From hi/2 a step of 8 goes over the seam of a ring, and down elsewhere.
+/// From hi/2 a step of 6 goes over the seam of a ring, and down elsewhere.
 #[test]
 fn asks_on_a_ring() {
-    let steep = opening(1, 1, 4, 100).replace(&floats(&[0.0, 1.0]), &floats(&[4.0, 8.0]));
     let asked = |x: f64| format!("a{}{}{}{}", word(0), word(2), floats(&[x]), zeros(8));
     let told = tell(1, 5) + "a\n";
-    assert_eq!(last_line(&(steep.clone() + &told)), asked(-4.0));
-    assert_eq!(last_line(&(with_ring(&steep, 1, 1) + &told)), asked(-4.0));
-    let shorter = steep.replace(&floats(&[4.0, 8.0]), &floats(&[4.0, 6.0]));
+    let shorter = opening(1, 1, 4, 100).replace(&floats(&[0.0, 1.0]), &floats(&[4.0, 6.0]));
     assert_eq!(last_line(&(shorter.clone() + &told)), asked(-2.0));
     assert_eq!(last_line(&(with_ring(&shorter, 1, 1) + &told)), asked(-6.0));
     let turned = shorter + &tell(1, 5) + &write(14, 1, 1) + "a\n";

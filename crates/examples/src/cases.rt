@@ -52,8 +52,8 @@ fn settled(rt: &impl Print) -> io::Result<()> {
     play_each(rt, three, &[&[5, 5, 5]])
 }
 
-// Axis 2 is a ring from -8 to 8, started half a step below hi: the build steps over the seam, r and e go a turn round, and so does a probe
-// at lo.
+// Axis 2 is a ring from -8 to 8, started half a step below hi: the build steps over hi, r is brought round, and e and the outside point go from
+// there. Started at lo, a probe steps below it.
 fn going_round(rt: &impl Print) -> io::Result<()> {
     println!(rt; "a ring")?;
     let near = with_second(opening(2, 0.0, 8.0, None, 100), ring(7.5, 8.0));
@@ -62,9 +62,9 @@ fn going_round(rt: &impl Print) -> io::Result<()> {
         rt,
         s,
         &[
-            &[30, 20, 10, 5, 6],
-            &[30, 20, 10, 25, 24],
-            &[30, 20, 10, 35],
+            &[10, 20, 30, 5, 6],
+            &[10, 20, 30, 25, 24],
+            &[10, 20, 30, 35, 29],
         ],
     )?;
     let at_lo = with_second(opening(2, 0.0, 8.0, None, 100), ring(-8.0, 8.0));

@@ -32,7 +32,7 @@ fn openings(rt: &impl Print) -> io::Result<()> {
     )
 }
 
-// Openings refused by checks 13 and 4 to 7.
+// A ring that starts at hi: refused by 13, after axis 1 by 4, and not read past n. Openings refused by checks 5 to 7.
 fn later_checks(rt: &impl Print) -> io::Result<()> {
     let good = opening(2, 0.0, 8.0, None, 100);
     let tight = opening(2, -8.0, -7.0, None, 100);

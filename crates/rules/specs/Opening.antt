@@ -1,4 +1,4 @@
--- "Refused calls", the rows of the opening: its checks in table order, and the search that it gives.
+-- "Refused calls", the rows of the opening: its checks in their order, and the search that it gives.
 use Rattle.std.specs.Prelude.{Bool, false, not, ◌&&◌, List, [], map, ℕ, zero, suc, ◌+◌, get_or, replicate, leb, Float, Option, Some, None, Ok, Err}
 use Rattle.std.specs.Float.Ieee.{neg, eq}
 use Rattle.rules.specs.Binary64.{0ᶠ, 1ᶠ, 2ᶠ, 4ᶠ, 8ᶠ, farthest, ◌⊕◌, ◌⊖◌, ◌⊘◌, ◌≤ᶠ◌, ◌<ᶠ◌}

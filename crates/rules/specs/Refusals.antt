@@ -3,7 +3,7 @@ use Rattle.std.specs.Prelude.{Bool, true, false, ℕ, Option, Some, None, Result
 use Rattle.rules.specs.declared.Refusal.{Refusal}
 use Rattle.rules.specs.declared.Refusal.TheVariants.{AxisCount, OutOfRange, BadLimits, BadStep, BadCoefficient, BadThreshold, BadBudget, SearchEnded, CostTooHigh, WrongNumber, NoReading, Damaged, RingAtHi}
 
--- the column "number" of the table, for each refusal
+-- the column "number" of the table, for each refusal, and document 02's 13
 abbrev pub number_of : Refusal → ℕ
 number_of AxisCount = 1
 number_of (OutOfRange axis) = 2

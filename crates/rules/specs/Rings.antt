@@ -41,7 +41,7 @@ brought_given =
     -- a ring from −0.6 to 1.8: lo, and the float before hi, keep their bits
     round_at 0xbfe3_3333_3333_3333 0x3ffc_cccc_cccc_cccd 0xbfe3_3333_3333_3333
     ∷ round_at 0xbfe3_3333_3333_3333 0x3ffc_cccc_cccc_cccd 0x3ffc_cccc_cccc_cccc
-    -- the float below lo, by a turn; hi, and the float after it, by a turn back
+    -- the float below lo, by a turn; hi, and the float after it, by a turn down
     ∷ round_at 0xbfe3_3333_3333_3333 0x3ffc_cccc_cccc_cccd 0xbfe3_3333_3333_3334
     ∷ round_at 0xbfe3_3333_3333_3333 0x3ffc_cccc_cccc_cccd 0x3ffc_cccc_cccc_cccd
     ∷ round_at 0xbfe3_3333_3333_3333 0x3ffc_cccc_cccc_cccd 0x3ffc_cccc_cccc_ccce
@@ -53,7 +53,7 @@ brought_given =
     ∷ round_at 0xbfe3_3333_3333_3333 0x3ffc_cccc_cccc_cccd 0x4011_3333_3333_3333
     ∷ round_at 0xbfe3_3333_3333_3333 0x3ffc_cccc_cccc_cccd 0xc008_0000_0000_0000
     ∷ round_at 0xbfe3_3333_3333_3333 0x3ffc_cccc_cccc_cccd 0x4010_cccc_cccc_cccd
-    -- 0.1 to 0.7: the turn back from hi rounds below lo
+    -- 0.1 to 0.7: the turn down from hi rounds below lo
     ∷ round_at 0x3fb9_9999_9999_999a 0x3fe6_6666_6666_6666 0x3fe6_6666_6666_6666
     -- 0 to 10: −1e−30 turned is 10, which is hi; −0.0 is not below lo, and keeps its sign
     ∷ round_at 0 0x4024_0000_0000_0000 0xb9b4_484b_feeb_c2a0 ∷ round_at 0 0x4024_0000_0000_0000 0x8000_0000_0000_0000

@@ -294,7 +294,7 @@ fn made_up_limits_of_a_ring() {
 }
 
 #[test]
-fn a_ring_turned_on_and_off_while_r_is_held() {
+fn an_axis_made_a_ring_and_none_while_r_is_held() {
     // r is (1, 1); on axis 1 hi is 3/4: r would be clamped there, or a turn less.
     let hi = (10, 1, 0.75f64.to_bits());
     assert_stops(&written(&[30, 20, 10, 5], &[hi]), 1, &[0.75, 1.5]);

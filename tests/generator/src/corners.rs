@@ -70,7 +70,7 @@ fn drawn(random: &mut Random, steps: f64, holds: impl Fn(&Axis) -> bool) -> Axis
         .unwrap_or(axes::ROUND)
 }
 
-/// An axis that ends so many steps on from its start: with hi, or with lo where the first step turns.
+/// An axis that ends so many steps on from its start: with hi, or with lo where the first step goes back.
 fn ending(random: &mut Random, steps: f64) -> Axis {
     let (start, step) = (random.within(-10.0, 10.0), random.within(0.1, 4.0));
     let (lo, hi) = match random.one_in(2) {

@@ -42,7 +42,7 @@ pub fn course(script: &mut Script, random: &mut Random, manner: Manner, tells: u
     } else {
         let mut opening = openings::fitting(random, tells);
         if script.rings {
-            rings::turn(random, &mut opening);
+            rings::put(random, &mut opening);
         }
         let costs = planned_costs(random, &mut opening, tells);
         lead(script, random, manner, &opening, costs, tells);

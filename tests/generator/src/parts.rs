@@ -61,7 +61,7 @@ fn open(script: &mut Script, random: &mut Random) -> Costs {
     let tells = random.between(20, 300);
     let mut opening = openings::fitting(random, tells);
     if script.rings {
-        rings::turn(random, &mut opening);
+        rings::put(random, &mut opening);
     }
     script.open(&opening);
     Costs::of(random, &opening, Vec::new())

@@ -1,4 +1,4 @@
-//! Made-up searches on rings: rings turned on and off in every phase, and limits written about what is asked, so that it stays, turns up or
+//! Made-up searches on rings: axes made rings and none in every phase, and limits written about what is asked, so that it stays, turns up or
 //! down, or becomes lo.
 
 use crate::costs::{Costs, DARK};

@@ -13,7 +13,7 @@ const MAKERS: [Maker; 13] = [
 ];
 
 /// Turns one axis of an opening, some or all into rings, most of them with a record of another kind; of those past n any.
-pub fn turn(random: &mut Random, opening: &mut Opening) {
+pub fn put(random: &mut Random, opening: &mut Opening) {
     let n = opening.n.min(8);
     // The mean of 1, 2 or 4 equal numbers is that number.
     if ![1, 2, 4].contains(&n) && random.one_in(4) {

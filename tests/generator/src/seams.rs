@@ -16,12 +16,12 @@ pub fn edged(script: &Script, random: &mut Random) -> Opening {
     }
     if random.one_in(3) {
         let mut opening = refusals::edged(random);
-        rings::turn(random, &mut opening);
+        rings::put(random, &mut opening);
         return opening;
     }
     let tells = random.between(10, 60);
     let mut opening = openings::fitting(random, tells);
-    rings::turn(random, &mut opening);
+    rings::put(random, &mut opening);
     for _ in 0..random.pick(&[1, 1, 1, 2]) {
         at_hi(random, &mut opening);
     }

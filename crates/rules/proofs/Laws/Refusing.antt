@@ -152,7 +152,7 @@ module _ (n : ℕ) (axes : List Axis) (rule : Option Rule) (c : Coefficients) (b
   opening_given BadBudget h = later_given h.0 ∙ rw (h.1, h.2, h.3) refl
   opening_given r h = absurd h
 
-  -- the opening's checks run in table order
+  -- the opening's checks run in their order
   pub opening_checks : (r : Refusal) → (open_verdict n axes rule c budget ≡ Err r) ↔ OpeningRefused n axes rule c budget r
   opening_checks r = (opening_fails r, opening_given r)
 
