@@ -152,10 +152,11 @@ module _ (n : ℕ) (axes : List Axis) (rule : Option Rule) (coefficients : Coeff
 
   -- ---- the controller: every trial lies within the limits that the opening gave
 
-  -- v is permitted on an axis: lo ≤ v ≤ hi; "A ring trial satisfies lo ≤ v < hi"
+  -- v is permitted on the axis y: lo ≤ v ≤ hi; "A ring trial satisfies lo ≤ v < hi"
   abbrev pub PermittedOn : Axis → Float → Type 0
   PermittedOn y v = ((y.lo ≤ᶠ v) ≡ true) × ((v ≤ᶠ y.hi) ≡ true) × (y.ring ≡ true → (v <ᶠ y.hi) ≡ true)
 
+  -- what lies within is permitted
   permitted_on : (y : Axis) (v : Float) → within y v ≡ true → PermittedOn y v
   permitted_on y v h =
       let both = simp and-eq-true_iff at h in

@@ -28,10 +28,11 @@ digit b = cond b 1 0
 abbrev pub brought_at : Axis → ℕ → List ℕ
 brought_at x v = to_bits binary64 (brought_in x (bits v)) ∷ digit (at_stop x (bits v)) ∷ digit (within x (bits v)) ∷ []
 
--- a number brought into the ring, and into the plain axis, of these limits
+-- a number brought into the ring of these limits
 abbrev pub round_at : ℕ → ℕ → ℕ → List ℕ
 round_at lo hi v = brought_at (ring_at lo hi 0 0) v
 
+-- a number brought into the axis of these limits that is no ring
 abbrev pub plain_at : ℕ → ℕ → ℕ → List ℕ
 plain_at lo hi v = brought_at (axis_at lo hi 0 0) v
 
@@ -72,7 +73,7 @@ brought_given =
     ∷ round_at 0x4000_0000_0000_0000 0x3ff0_0000_0000_0000 0x3ff8_0000_0000_0000
     ∷ round_at 0x4000_0000_0000_0000 0x3ff0_0000_0000_0000 0x4000_0000_0000_0000
     ∷ round_at 0x3ff0_0000_0000_0000 0x3ff0_0000_0000_0000 0x3ff0_0000_0000_0000
-    -- a NaN at either end: what is there
+    -- a NaN at either end: lo, a NaN too
     ∷ round_at 0x7ff8_0000_0000_0000 0x4000_0000_0000_0000 0x3ff0_0000_0000_0000
     ∷ round_at 0x3ff0_0000_0000_0000 0x7ff8_0000_0000_0000 0x3ff0_0000_0000_0000
     -- no ring: hi is a position; what is past a limit stops at it; a NaN becomes lo
@@ -120,7 +121,7 @@ ring_openings_given =
     -- either zero equals the other, as hi
     ∷ verdict_on good_axis (ring_at 0xc020_0000_0000_0000 0 0x8000_0000_0000_0000 0x3ff0_0000_0000_0000) None
     ∷ verdict_on good_axis (ring_at 0xc020_0000_0000_0000 0x8000_0000_0000_0000 0 0x3ff0_0000_0000_0000) None
-    -- no ring starts at hi as it may
+    -- an axis that is no ring may start at hi
     ∷ verdict_on good_axis (axis_at 0xc020_0000_0000_0000 0x4020_0000_0000_0000 0x4020_0000_0000_0000 0x3ff0_0000_0000_0000) None
     -- 13 before 4: a step that is too large, and one that moves nothing
     ∷ verdict_on good_axis (ring_at 0xc020_0000_0000_0000 0x4020_0000_0000_0000 0x4020_0000_0000_0000 0x4020_0000_0000_0001) None
