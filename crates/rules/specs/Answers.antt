@@ -7,6 +7,7 @@ use Rattle.rules.specs.Opening.{fresh}
 use Rattle.rules.specs.Calls.{ask_verdict, tell_verdict, best_verdict}
 use Rattle.rules.specs.Examples.{after_costs}
 use Rattle.rules.specs.Cases.{case_axis}
+use Rattle.rules.specs.declared.Method.TheVariants.{NelderMead}
 use Rattle.rules.specs.declared.Search.{Search}
 use Rattle.rules.specs.declared.Phase.{Phase}
 use Rattle.rules.specs.declared.Phase.TheVariants.{Reflecting, Ended}
@@ -16,7 +17,7 @@ use Rattle.rules.specs.declared.Refusal.TheVariants.{AxisCount, OutOfRange, BadL
 
 -- the search of an opening over n axes from −8 to 8 with step 1, no rule named
 abbrev pub fresh_with : ℕ → Float → ℕ → Search
-fresh_with n start budget = fresh n (replicate 8 (case_axis start 8ᶠ)) None usual budget
+fresh_with n start budget = fresh NelderMead n (replicate 8 (case_axis start 8ᶠ)) None usual budget
 
 -- the phase of `fresh_with` after the costs cs
 abbrev pub phase_after : ℕ → Float → ℕ → List ℕ → Phase

@@ -8,6 +8,7 @@ use Rattle.rules.specs.Binary64.{0ᶠ, 1ᶠ, 2ᶠ, 8ᶠ, farthest}
 use Rattle.rules.specs.Numbers.{usual}
 use Rattle.rules.specs.Opening.{zero_axis, open_verdict, fresh}
 use Rattle.rules.specs.Examples.{½, 𝟏, 1¼, 1½, ¼, example_axis, Shows, asks, after_costs, next}
+use Rattle.rules.specs.declared.Method.TheVariants.{NelderMead}
 use Rattle.rules.specs.declared.Rule.{Rule}
 use Rattle.rules.specs.declared.Axis.{Axis}
 use Rattle.rules.specs.declared.Search.{Search}
@@ -27,7 +28,7 @@ two_axes x y = x ∷ y ∷ replicate 6 zero_axis
 
 -- a search over two axes from −8 to hi with step 1, the usual coefficients, budget 100
 abbrev pub case_search : Float → Float → Option Rule → Search
-case_search start hi rule = fresh 2 (two_axes (case_axis start hi) (case_axis start hi)) rule usual 100
+case_search start hi rule = fresh NelderMead 2 (two_axes (case_axis start hi) (case_axis start hi)) rule usual 100
 
 -- the trial that `case_search` asks after the costs cs
 abbrev pub trial_after : Float → Float → Option Rule → List ℕ → Shows
@@ -39,7 +40,7 @@ one_axis = case_axis 0ᶠ 8ᶠ ∷ replicate 7 zero_axis
 
 -- the input that document 01 gives the program: one axis, budget 4, spread 1
 abbrev pub program_search : Search
-program_search = fresh 1 one_axis (Some (Spread 1)) usual 4
+program_search = fresh NelderMead 1 one_axis (Some (Spread 1)) usual 4
 
 -- 0.1, of which three add up to more than three times itself
 abbrev pub tenth : Float
@@ -51,7 +52,7 @@ three_axes = case_axis tenth tenth ∷ case_axis 0ᶠ 8ᶠ ∷ case_axis 0ᶠ 8�
 
 -- a search over three axes whose centroid rounds past hi
 abbrev pub rounded_search : Search
-rounded_search = fresh 3 three_axes None usual 100
+rounded_search = fresh NelderMead 3 three_axes None usual 100
 
 -- the trials that the rules give, case by case
 unfoldable pub cases_given : List Shows
@@ -116,7 +117,7 @@ cases_stated =
 
 -- the verdict on two axis records with the usual coefficients and budget 100
 abbrev pub verdict_on : Axis → Axis → Option Rule → Verdict
-verdict_on x y rule = open_verdict 2 (two_axes x y) rule usual 100
+verdict_on x y rule = open_verdict NelderMead 2 (two_axes x y) rule usual 100
 
 -- the verdict on the opening of `case_search`, with budget 100
 abbrev pub case_verdict : Float → Float → Option Rule → Verdict
@@ -126,14 +127,14 @@ case_verdict start hi rule = verdict_on (case_axis start hi) (case_axis start hi
 unfoldable pub openings_given : List Verdict
 openings_given =
     -- P1 and P12, and the cases above
-    open_verdict 2 (two_axes (example_axis 8ᶠ) (example_axis 8ᶠ)) (Some (Spread 4)) usual 100
-    ∷ open_verdict 2 (two_axes (example_axis (bits 1¼)) (example_axis (bits 1¼))) (Some (Spread 4)) usual 100
+    open_verdict NelderMead 2 (two_axes (example_axis 8ᶠ) (example_axis 8ᶠ)) (Some (Spread 4)) usual 100
+    ∷ open_verdict NelderMead 2 (two_axes (example_axis (bits 1¼)) (example_axis (bits 1¼))) (Some (Spread 4)) usual 100
     ∷ case_verdict 2ᶠ 8ᶠ None ∷ case_verdict 2ᶠ (bits 0x4004_0000_0000_0000) None ∷ case_verdict 1ᶠ (bits 0x3ffc_0000_0000_0000) None
-    ∷ open_verdict 3 three_axes None usual 100
+    ∷ open_verdict NelderMead 3 three_axes None usual 100
     ∷ case_verdict 2ᶠ 8ᶠ (Some (Moved farthest)) ∷ case_verdict 2ᶠ 8ᶠ (Some (Moved 1ᶠ)) ∷ case_verdict 2ᶠ 8ᶠ (Some (Moved (bits 0x3ff0_0000_0000_0001)))
     ∷ case_verdict 2ᶠ 8ᶠ (Some (Size (bits ¼))) ∷ case_verdict 2ᶠ 8ᶠ (Some (Size (bits ½)))
     ∷ case_verdict 0ᶠ 8ᶠ (Some (Size (bits 1¼))) ∷ case_verdict 0ᶠ 8ᶠ (Some (Size (bits 1½)))
-    ∷ open_verdict 1 one_axis (Some (Spread 1)) usual 4
+    ∷ open_verdict NelderMead 1 one_axis (Some (Spread 1)) usual 4
     ∷ []
 
 -- they are not refused

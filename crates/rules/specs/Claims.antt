@@ -3,20 +3,21 @@ use Rattle.std.specs.Prelude.{◌≡◌, ◌↔◌, Bool, true, false, cond, ◌
 use mathlib.Core.List.{List, [], ◌∷◌, ◌++◌, map, Memᴰ}
 use mathlib.Core.Logic.{◌⊎◌}
 use Rattle.std.specs.Float.{nan}
-use Rattle.rules.specs.Binary64.{brought_round, ◌≤ᶠ◌, ◌<ᶠ◌}
-use Rattle.rules.specs.Simplex.{blank, cost_of, place, Ordered}
-use Rattle.rules.specs.Trial.{axis, target, trial}
+use Rattle.rules.specs.Binary64.{brought_round}
+use Rattle.rules.specs.Simplex.{blank, cost_of, place, pack, Ordered}
+use Rattle.rules.specs.Trial.{axis, within, target, trial}
 use Rattle.rules.specs.Stop.{total}
 use Rattle.rules.specs.View.{is_ended}
-use Rattle.rules.specs.Count.{count_in}
+use Rattle.rules.specs.Count.{same, count_in}
 use Rattle.rules.specs.Accept.{gathered_of}
 use Rattle.rules.specs.Calls.{standing_of, showing, asking, telling}
 use Rattle.rules.specs.History.{Event, told, run, costs_in, joins, reading, EarliestLeast}
-use Rattle.rules.specs.Tally.{made, others, probes_in, open_in, readings_by, Ends, EndsIn}
+use Rattle.rules.specs.Tally.{made, others, probes_in, directed_in, open_in, readings_by, Ends, EndsIn}
 use Rattle.rules.specs.declared.Piece.{Piece}
-use Rattle.rules.specs.declared.Piece.TheVariants.{Build, Shrink}
-use Rattle.rules.specs.declared.Phase.TheVariants.{Probing, Ended}
+use Rattle.rules.specs.declared.Piece.TheVariants.{Build, Shrink, Pattern}
+use Rattle.rules.specs.declared.Phase.TheVariants.{Checking, Probing, Ended}
 use Rattle.rules.specs.declared.Cause.TheVariants.{Settled, Budget}
+use Rattle.rules.specs.declared.Method.TheVariants.{NelderMead, Multidirectional}
 use Rattle.rules.specs.declared.Vertex.{Vertex}
 use Rattle.rules.specs.declared.Simplex.{Simplex}
 use Rattle.rules.specs.declared.Trial.{Trial}
@@ -39,10 +40,6 @@ AreRead o h places = (i : ℕ) → i < 9 → (place places i ≡ blank) ⊎ IsRe
 pub record IsBest (o : Search) (h : List Event) (v : Vertex) : Type 0 where
   pub read : IsRead o h v
   pub least : EarliestLeast (costs_in h) (v.number - 1)
-
--- v is a position of the axis x, by the clamp's own comparisons: lo ≤ v ≤ hi; on a ring "lo ≤ v < hi"
-abbrev pub within : Axis → Float → Bool
-within x v = (x.lo ≤ᶠ v) && cond x.ring (v <ᶠ x.hi) (v ≤ᶠ x.hi)
 
 -- the point x lies within the limits of each axis
 abbrev pub Within : Setup → List Float → Type 0
@@ -83,14 +80,8 @@ pub record FullRound (o : Search) (before : List Event) (round : List ℕ) : Typ
   pub full : length round ≡ 2 * o.setup.n
   pub none_lower : (j : ℕ) → j < length round → (run o before).best.cost ≤ get_or round j 0
 
--- o: the search as opened; h: the history; s: the search that the last call returned
-pub record Claims (o : Search) (h : List Event) (s : Search) : Type 0 where
-  -- "equal bit for bit" to the search "of the rules over the history"; its setup is the opening's
-  pub carried : s ≡ run o h
-  pub kept : s.setup ≡ o.setup
-  -- "A tell is accepted .. exactly when", and "trial k is the point that the rules ask .., which ask then answers"
-  pub accepts : (k c : ℕ) → ((telling s k c).verdict ≡ Ok tt) ↔ (joins o h k c ≡ true)
-  pub asks : is_ended s.phase ≡ false → asking s ≡ Ok (record { number = length (costs_in h) + 1; trial = trial (run o h) })
+-- what holds of Nelder-Mead. o: the search as opened; h: the history; s: the search that the last call returned
+pub record OfNelderMead (o : Search) (h : List Event) (s : Search) : Type 0 where
   -- order: "Vertices are ordered by cost, lowest first"
   pub sorted : Ordered (standing_of s)
   -- vertices: the simplex is empty before the first build ends, n + 1 vertices afterwards, and each is the accepted reading of its number;
@@ -99,21 +90,56 @@ pub record Claims (o : Search) (h : List Event) (s : Search) : Type 0 where
   pub vertices : (v : Vertex) → Memᴰ v (standing_of s) → IsRead o h v
   pub gathered : (v : Vertex) → Memᴰ v (gathered_of s) → IsRead o h v
   pub all_read : AreRead o h s.standing × AreRead o h s.gathered
-  -- best: "the earliest least reading", with its number
-  pub best : 0 < length (costs_in h) → (v : Vertex) × IsBest o h v × (showing s ≡ Ok v)
   -- first vertex: at the end of every build and iteration it is the earliest least of the readings till then, with its number
   pub first : (before : List Event) (e : Event) (since : List Event) → h ≡ before ++ e ∷ since → Ends o before e
       → let till = before ++ e ∷ [] in (v : Vertex) × IsBest o till v × (take 1 (standing_of (run o till)) ≡ v ∷ [])
+  -- "The equation's numbers are those that the search carries"
+  pub equation : 0 < length (costs_in h) → s.readings ≡ readings_by o.setup.n s.counts
+  -- the bound by S
+  pub bound_after_build : BoundAfter Build o h
+  pub bound_after_shrink : BoundAfter Shrink o h
+  -- the stops that ask answers, against the numbers that the rules ask for
+  pub stops_asked : (a : Asked) → asking s ≡ Ok a → StopsOf o.setup (target (run o h) (run o h).phase) a.trial
+
+-- what holds of the multidirectional method
+pub record OfMultidirectional (o : Search) (h : List Event) (s : Search) : Type 0 where
+  -- "No simplex stands in this method", and no piece of Nelder-Mead counts
+  pub none_stands : standing_of s ≡ []
+  pub none_counts : (p : Piece) → same p Pattern ≡ false → count_in p s.counts ≡ 0
+  pub none_open : s.counts.unfinished ≡ 0
+  -- base: "the base is that reading at the end of every iteration", the earliest least of the readings till then, with its number
+  pub base : (before : List Event) (e : Event) (since : List Event) → h ≡ before ++ e ∷ since → Ends o before e
+      → let till = before ++ e ∷ [] in (v : Vertex) × IsBest o till v × (place (run o till).standing 0 ≡ v)
+  -- companions: none stands before the base is told; then each is unread, or the accepted reading of its number, and lies within the limits;
+  -- so with each reflection that the running iteration was told
+  pub none_before : length (costs_in h) ≡ 0 → s.standing ≡ pack []
+  pub companions : 0 < length (costs_in h) → (i : ℕ) → 1 ≤ i → i ≤ o.setup.n → let c = place s.standing i in (((c.number ≡ 0) × (c.cost ≡ 0)) ⊎ IsRead o h c) × Within o.setup c.point
+  pub reflections : AreRead o h s.gathered
+  -- "readings are at most 1 + 2n·(finished iterations + 1) + probes"
+  pub bound : s.readings ≤ 1 + 2 * o.setup.n * (s.counts.patterns + 1) + s.counts.probes
+  pub equation : 0 < length (costs_in h) → s.readings ≡ 1 + s.counts.directed + s.counts.probes
+  -- the stops that ask answers, against the numbers that the rules ask for; those of a companion against the numbers, f, that it was made of
+  pub stops_asked : (a : Asked) → asking s ≡ Ok a → ((i : ℕ) → s.phase ≡ Checking i → ⊥) → StopsOf o.setup (target (run o h) (run o h).phase) a.trial
+  pub stops_made : (a : Asked) → asking s ≡ Ok a → (i : ℕ) → s.phase ≡ Checking i → (f : ℕ → Float) × StopsOf o.setup f a.trial
+
+-- what holds of either method, and what of each
+pub record Claims (o : Search) (h : List Event) (s : Search) : Type 0 where
+  -- "equal bit for bit" to the search "of the rules over the history"; its setup and its method are the opening's
+  pub carried : s ≡ run o h
+  pub kept : s.setup ≡ o.setup
+  pub method : s.method ≡ o.method
+  -- "A tell is accepted .. exactly when", and "trial k is the point that the rules ask .., which ask then answers"
+  pub accepts : (k c : ℕ) → ((telling s k c).verdict ≡ Ok tt) ↔ (joins o h k c ≡ true)
+  pub asks : is_ended s.phase ≡ false → asking s ≡ Ok (record { number = length (costs_in h) + 1; trial = trial (run o h) })
+  -- best: "the earliest least reading", with its number
+  pub best : 0 < length (costs_in h) → (v : Vertex) × IsBest o h v × (showing s ≡ Ok v)
   -- "The equation's numbers are those that the search carries, each equal to its count by the rules over the history; readings
   -- equals the number of costs there"
   pub readings : s.readings ≡ length (costs_in h)
   pub finished : (p : Piece) → count_in p s.counts ≡ made p o h
   pub probes : s.counts.probes ≡ probes_in o h
+  pub directed : s.counts.directed ≡ directed_in o h
   pub unfinished : s.counts.unfinished ≡ open_in 0 o h
-  pub equation : 0 < length (costs_in h) → s.readings ≡ readings_by o.setup.n s.counts
-  -- the bound by S
-  pub bound_after_build : BoundAfter Build o h
-  pub bound_after_shrink : BoundAfter Shrink o h
   -- settled exactly when a probe round has been told in full, anywhere in the history, and none was lower; then nothing follows it
   pub settled_only : s.phase ≡ Ended Settled → (before : List Event) × (round : List ℕ) × (h ≡ before ++ map told round) × FullRound o before round
   pub settled_when : (before : List Event) (round : List ℕ) (since : List Event) → h ≡ before ++ map told round ++ since → FullRound o before round → (since ≡ []) × (s.phase ≡ Ended Settled)
@@ -122,5 +148,5 @@ pub record Claims (o : Search) (h : List Event) (s : Search) : Type 0 where
   -- every trial lies within the axis limits: those told, and the one that is asked
   pub within_told : (k : ℕ) → k < length (costs_in h) → Within o.setup (reading o h k).point
   pub within_asked : (a : Asked) → asking s ≡ Ok a → Within o.setup a.trial.point
-  -- the stops that ask answers, against the numbers that the rules ask for
-  pub stops_asked : (a : Asked) → asking s ≡ Ok a → StopsOf o.setup (target (run o h) (run o h).phase) a.trial
+  pub nelder_mead : o.method ≡ NelderMead → OfNelderMead o h s
+  pub multidirectional : o.method ≡ Multidirectional → OfMultidirectional o h s

@@ -1,18 +1,24 @@
--- "Iteration", its table, and the ends of builds, shrinks and probe rounds: what a reading decides, by its phase and the costs. Of what a
+-- "Iteration", its table, the iteration of the multidirectional search, and the ends of builds, shrinks and probe rounds: what a reading decides, by its phase and the costs. Of what a
 -- reading does, only the insertion and the best compare costs besides.
 use Rattle.std.specs.Prelude.{Bool, cond, ℕ, ◌+◌, ◌-◌, ◌*◌, get_or, leb, ltb, eqb, Option, Some, None}
+use Rattle.rules.specs.Companions.{next_unread}
 use Rattle.rules.specs.declared.Search.{Search}
+use Rattle.rules.specs.declared.Method.{Method}
+use Rattle.rules.specs.declared.Method.TheVariants.{NelderMead, Multidirectional}
 use Rattle.rules.specs.declared.Phase.{Phase}
-use Rattle.rules.specs.declared.Phase.TheVariants.{Building, Reflecting, Expanding, Contracting, Shrinking, Probing, Ended}
+use Rattle.rules.specs.declared.Phase.TheVariants.{Building, Reflecting, Expanding, Contracting, Shrinking, Basing, Mirroring, Checking, Probing, Ended}
 use Rattle.rules.specs.declared.Side.{Side}
 use Rattle.rules.specs.declared.Side.TheVariants.{Outside, Inside}
 use Rattle.rules.specs.declared.Cause.TheVariants.{Settled}
 use Rattle.rules.specs.declared.Piece.{Piece}
-use Rattle.rules.specs.declared.Piece.TheVariants.{Build, Reflection, Expansion, Contraction, Shrink}
+use Rattle.rules.specs.declared.Piece.TheVariants.{Build, Reflection, Expansion, Contraction, Shrink, Pattern}
 use Rattle.rules.specs.declared.Newcomer.TheVariants.{Latest, Reflected}
-use Rattle.rules.specs.declared.Keeping.TheVariants.{Nothing, Joined, First}
+use Rattle.rules.specs.declared.Keeping.{Keeping}
+use Rattle.rules.specs.declared.Keeping.TheVariants.{Nothing, Joined, First, Told, Read}
+use Rattle.rules.specs.declared.Change.{Change}
+use Rattle.rules.specs.declared.Change.TheVariants.{Built, Mirrored, Swapped, Halved}
 use Rattle.rules.specs.declared.Decision.{Decision}
-use Rattle.rules.specs.declared.Decision.TheVariants.{Go, Take, Stand, Restart}
+use Rattle.rules.specs.declared.Decision.TheVariants.{Go, Take, Stand, Restart, Regroup}
 
 -- "f1": the cost at place 1
 abbrev pub f1 : Search → ℕ
@@ -63,6 +69,21 @@ wins Inside fc s = ltb fc (fw s)
 abbrev pub ends_round : ℕ → Search → Bool
 ends_round f s = ltb f s.best.cost
 
+-- "lower than the base", which stands at place 1
+abbrev pub lower : ℕ → Search → Bool
+lower f s = ltb f (f1 s)
+
+-- "Otherwise it reads the unread companions in order", from the i-th on; "Otherwise companions become xi + ½·(x0 − xi)"
+abbrev pub checks_from : ℕ → Keeping → Search → Decision
+checks_from i keeping s =
+    let j = next_unread s.setup.n s.standing.numbers i in
+    cond (leb j s.setup.n) (Go keeping (Checking j)) (Regroup Halved)
+
+-- "a restart builds around that point"; "A restart builds unread companions around the lower point"
+abbrev pub restart : Method → Decision
+restart NelderMead = Restart
+restart Multidirectional = Regroup Built
+
 -- what the cost f decides when it is told in each phase
 unfoldable pub decided : Phase → Search → ℕ → Decision
 decided (Building i) s f = cond (is_last i s) (Stand Build) (Go Joined (Building (i + 1)))
@@ -77,9 +98,22 @@ decided Expanding s fe = Take Expansion (cond (wins_expanded fe s) Latest Reflec
 decided (Contracting side) s fc = cond (wins side fc s) (Take Contraction Latest) (Go First (Shrinking 1))
 -- "the simplex is replaced when all n are told"
 decided (Shrinking j) s f = cond (is_last j s) (Stand Shrink) (Go Joined (Shrinking (j + 1)))
--- "a restart builds around that point"; "If all 2n are told and none is lower, the search ends settled"
-decided (Probing p) s f = cond (ends_round f s) Restart (cond (is_full p s) (Go Nothing (Ended Settled)) (Go Nothing (Probing (p + 1))))
+-- "A base x0 has n companions xi"
+decided Basing s f = Regroup Built
+-- "for i = 1 to n until one is lower than the base"
+decided (Mirroring i) s f = cond (lower f s) (Regroup (Mirrored i)) (cond (is_last i s) (checks_from 1 (Told i) s) (Go (Told i) (Mirroring (i + 1))))
+-- "until one is lower, which swaps"
+decided (Checking i) s f = cond (lower f s) (Regroup (Swapped i)) (checks_from (i + 1) (Read i) s)
+-- "If all 2n are told and none is lower, the search ends settled"
+decided (Probing p) s f = cond (ends_round f s) (restart s.method) (cond (is_full p s) (Go Nothing (Ended Settled)) (Go Nothing (Probing (p + 1))))
 decided (Ended cause) s f = Go Nothing (Ended cause)
+
+-- a change ends a multidirectional iteration, but where companions are built
+abbrev pub completed : Change → Option Piece
+completed Built = None
+completed (Mirrored j) = Some Pattern
+completed (Swapped j) = Some Pattern
+completed Halved = Some Pattern
 
 -- the piece that a decision finishes, if any
 abbrev pub finished_by : Decision → Option Piece
@@ -87,3 +121,4 @@ finished_by (Go keeping next) = None
 finished_by (Take piece who) = Some piece
 finished_by (Stand piece) = Some piece
 finished_by Restart = None
+finished_by (Regroup change) = completed change

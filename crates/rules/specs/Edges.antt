@@ -10,6 +10,7 @@ use Rattle.rules.specs.Opening.{open_verdict}
 use Rattle.rules.specs.Cases.{bits, two_axes, verdict_on}
 use Rattle.rules.specs.Walks.{axis_at, coefficients_at, judged, odd, wide, zeros, rounds}
 use Rattle.rules.specs.Thresholds.{even, three, from_2, inexact, uneven, far, near, nearest}
+use Rattle.rules.specs.declared.Method.TheVariants.{NelderMead}
 use Rattle.rules.specs.declared.Axis.{Axis}
 use Rattle.rules.specs.declared.Coefficients.{Coefficients}
 use Rattle.rules.specs.declared.Rule.{Rule}
@@ -42,7 +43,7 @@ eighth_bad = replicate 7 good_axis ++ axis_at 0 0 0 0 ∷ []
 
 -- the verdict on n axes with these records
 abbrev pub by_n : ℕ → List Axis → Verdict
-by_n n axes = open_verdict n axes None usual 100
+by_n n axes = open_verdict NelderMead n axes None usual 100
 
 -- the verdict on a good axis and a second one of these numbers, by their bits
 abbrev pub second : ℕ → ℕ → ℕ → ℕ → Verdict
@@ -54,15 +55,15 @@ first lo hi start step = verdict_on (axis_at lo hi start step) good_axis None
 
 -- the verdict on two good axes with α, χ, β and σ of these bits
 abbrev pub by_coefficients : ℕ → ℕ → ℕ → ℕ → Verdict
-by_coefficients alpha chi beta sigma = open_verdict 2 good None (coefficients_at alpha chi beta sigma) 100
+by_coefficients alpha chi beta sigma = open_verdict NelderMead 2 good None (coefficients_at alpha chi beta sigma) 100
 
 -- the verdict on two good axes with this rule
 abbrev pub by_rule : Rule → Verdict
-by_rule rule = open_verdict 2 good (Some rule) usual 100
+by_rule rule = open_verdict NelderMead 2 good (Some rule) usual 100
 
 -- the verdict on n good axes with this budget
 abbrev pub by_budget : ℕ → ℕ → Verdict
-by_budget n budget = open_verdict n good None usual budget
+by_budget n budget = open_verdict NelderMead n good None usual budget
 
 -- the verdicts that the rules give
 unfoldable pub edges_given : List Verdict
@@ -159,9 +160,9 @@ edges_given =
     ∷ verdict_on leaping_axis nan_axis None
     ∷ verdict_on (axis_at 0xc020_0000_0000_0000 0xc020_0000_0000_0000 0xc020_0000_0000_0000 0x3ff0_0000_0000_0000) nan_axis None
     -- 4 on the last axis and 5; 5 and 6; 6 and 7
-    ∷ open_verdict 2 (two_axes good_axis leaping_axis) None bad_coefficients 100
-    ∷ open_verdict 2 good (Some (Spread 0)) bad_coefficients 100
-    ∷ open_verdict 2 good (Some (Spread 0)) usual 2
+    ∷ open_verdict NelderMead 2 (two_axes good_axis leaping_axis) None bad_coefficients 100
+    ∷ open_verdict NelderMead 2 good (Some (Spread 0)) bad_coefficients 100
+    ∷ open_verdict NelderMead 2 good (Some (Spread 0)) usual 2
     ∷ []
 
 -- what document 01 says of each, in this order

@@ -9,6 +9,7 @@ use Rattle.rules.specs.Trial.{trial}
 use Rattle.rules.specs.Stop.{spread_met}
 use Rattle.rules.specs.History.{told, run}
 use Rattle.rules.specs.Opening.{zero_axis, fresh}
+use Rattle.rules.specs.declared.Method.TheVariants.{NelderMead}
 use Rattle.rules.specs.declared.Axis.{Axis}
 use Rattle.rules.specs.declared.Search.{Search}
 use Rattle.rules.specs.declared.Vertex.{Vertex}
@@ -44,7 +45,7 @@ example_axis hi = record { lo = neg 8ᶠ; hi = hi; start = 0ᶠ; step = 1ᶠ; ri
 
 -- the examples' search as opened, "spread 4, budget 100"
 abbrev pub example_search : Float → Search
-example_search hi = fresh 2 (example_axis hi ∷ example_axis hi ∷ replicate 6 zero_axis) (Some (Spread 4)) usual 100
+example_search hi = fresh NelderMead 2 (example_axis hi ∷ example_axis hi ∷ replicate 6 zero_axis) (Some (Spread 4)) usual 100
 
 -- what an example shows: the two coordinates asked for, by their bits; the vertex at a place, with its cost; whether a rule is met
 pub data Shows : Type 0 where

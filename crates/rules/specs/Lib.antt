@@ -6,6 +6,7 @@ pub mod View
 pub mod Trial
 pub mod Count
 pub mod Stop
+pub mod Companions
 pub mod Decide
 pub mod Accept
 pub mod Refusals

@@ -6,18 +6,21 @@ use Rattle.rules.specs.Simplex.{first_of, pack, blank}
 use Rattle.rules.specs.Numbers.{max_budget, max_spread}
 use Rattle.rules.specs.Trial.{no_axis}
 use Rattle.rules.specs.Count.{no_counts}
+use Rattle.rules.specs.Stop.{suits}
 use Rattle.rules.specs.Refusals.{Verdict, check}
+use Rattle.rules.specs.declared.Method.{Method}
+use Rattle.rules.specs.declared.Method.TheVariants.{NelderMead, Multidirectional}
 use Rattle.rules.specs.declared.Axis.{Axis}
 use Rattle.rules.specs.declared.Coefficients.{Coefficients}
 use Rattle.rules.specs.declared.Rule.{Rule}
 use Rattle.rules.specs.declared.Rule.TheVariants.{Spread, Moved, Size}
 use Rattle.rules.specs.declared.Setup.{Setup}
 use Rattle.rules.specs.declared.Phase.{Phase}
-use Rattle.rules.specs.declared.Phase.TheVariants.{Building, Ended}
+use Rattle.rules.specs.declared.Phase.TheVariants.{Building, Basing, Ended}
 use Rattle.rules.specs.declared.Cause.TheVariants.{Budget}
 use Rattle.rules.specs.declared.Search.{Search}
 use Rattle.rules.specs.declared.Opened.{Opened}
-use Rattle.rules.specs.declared.Refusal.TheVariants.{AxisCount, OutOfRange, BadLimits, BadStep, BadCoefficient, BadThreshold, BadBudget, RingAtHi}
+use Rattle.rules.specs.declared.Refusal.TheVariants.{AxisCount, OutOfRange, BadLimits, BadStep, BadCoefficient, BadThreshold, BadBudget, RingAtHi, RuleOfMethod}
 
 -- refusal 2: "fails −1,048,576 ≤ v ≤ 1,048,576 (so NaN too)"
 abbrev pub in_range : Float → Bool
@@ -66,26 +69,29 @@ abbrev pub rule_of : Option Rule → Rule
 rule_of None = Spread 4
 rule_of (Some r) = r
 
--- the opening's refusals, 1 to 7 and 13, in the order of the checks
-unfoldable pub open_verdict : ℕ → List Axis → Option Rule → Coefficients → ℕ → Verdict
-open_verdict n axes rule c budget =
+-- the opening's refusals, 1 to 7, 13 and 14, in the order of the checks: "Naming another rule, or none, with this method is refused as 14, after 6"
+unfoldable pub open_verdict : Method → ℕ → List Axis → Option Rule → Coefficients → ℕ → Verdict
+open_verdict m n axes rule c budget =
     check (leb 1 n && leb n 8) AxisCount
     (axes_checks n 0 axes
     (check (in_coefficients c) BadCoefficient
     (check (in_threshold (rule_of rule)) BadThreshold
-    (check (leb (n + 1) budget && leb budget max_budget) BadBudget (Ok tt)))))
+    (check (suits m (rule_of rule)) RuleOfMethod
+    (check (leb (n + 1) budget && leb budget max_budget) BadBudget (Ok tt))))))
 
 -- an axis record of zeros, no ring
 abbrev pub zero_axis : Axis
 zero_axis = record { lo = 0ᶠ; hi = 0ᶠ; start = 0ᶠ; step = 0ᶠ; ring = false }
 
 -- a search with no reading, whose build goes around x
-abbrev pub unread : Setup → Phase → List Float → Search
-unread t p x = record {
+abbrev pub unread : Setup → Method → Phase → List Float → Search
+unread t m p x = record {
   setup = t;
+  method = m;
   phase = p;
   standing = pack [];
   gathered = pack [];
+  stops = replicate 9 0;
   center = x;
   readings = 0;
   best = blank;
@@ -94,7 +100,7 @@ unread t p x = record {
 
 -- "A refused opening returns a closed search: ended with cause budget, all zero, its rule spread 0"
 unfoldable pub closed : Search
-closed = unread (record { n = 0; axes = replicate 8 zero_axis; coefficients = record { alpha = 0ᶠ; chi = 0ᶠ; beta = 0ᶠ; sigma = 0ᶠ }; rule = Spread 0; budget = 0 }) (Ended Budget) (replicate 8 0ᶠ)
+closed = unread (record { n = 0; axes = replicate 8 zero_axis; coefficients = record { alpha = 0ᶠ; chi = 0ᶠ; beta = 0ᶠ; sigma = 0ᶠ }; rule = Spread 0; budget = 0 }) NelderMead (Ended Budget) (replicate 8 0ᶠ)
 
 -- an axis's start
 abbrev pub start_of : Axis → Float
@@ -104,9 +110,14 @@ start_of x = x.start
 abbrev pub keep : ℕ → List Axis → List Axis
 keep n axes = first_of n zero_axis axes
 
+-- the phase of a first trial
+abbrev pub first_phase : Method → Phase
+first_phase NelderMead = Building 0
+first_phase Multidirectional = Basing
+
 -- the search of an opening that is not refused: its first trial is the start point
-unfoldable pub fresh : ℕ → List Axis → Option Rule → Coefficients → ℕ → Search
-fresh n axes rule c budget = unread (record { n = n; axes = keep n axes; coefficients = c; rule = rule_of rule; budget = budget }) (Building 0) (map start_of (keep n axes))
+unfoldable pub fresh : Method → ℕ → List Axis → Option Rule → Coefficients → ℕ → Search
+fresh m n axes rule c budget = unread (record { n = n; axes = keep n axes; coefficients = c; rule = rule_of rule; budget = budget }) m (first_phase m) (map start_of (keep n axes))
 
 -- the answer by the verdict
 abbrev pub opened_by : Verdict → Search → Opened
@@ -114,5 +125,5 @@ opened_by (Ok _) s = record { verdict = Ok tt; search = s }
 opened_by (Err r) s = record { verdict = Err r; search = closed }
 
 -- the opening: "An opening gives n and eight records"
-unfoldable pub opening : ℕ → List Axis → Option Rule → Coefficients → ℕ → Opened
-opening n axes rule c budget = opened_by (open_verdict n axes rule c budget) (fresh n axes rule c budget)
+unfoldable pub opening : Method → ℕ → List Axis → Option Rule → Coefficients → ℕ → Opened
+opening m n axes rule c budget = opened_by (open_verdict m n axes rule c budget) (fresh m n axes rule c budget)

@@ -5,12 +5,14 @@ use Rattle.rules.specs.View.{is_ended}
 use Rattle.rules.specs.Trial.{no_axis}
 use Rattle.rules.specs.Opening.{all_in_range, in_limits, in_ring, in_step, in_coefficients, in_threshold, rule_of}
 use Rattle.rules.specs.Calls.{undamaged}
+use Rattle.rules.specs.Stop.{suits}
+use Rattle.rules.specs.declared.Method.{Method}
 use Rattle.rules.specs.declared.Axis.{Axis}
 use Rattle.rules.specs.declared.Coefficients.{Coefficients}
 use Rattle.rules.specs.declared.Rule.{Rule}
 use Rattle.rules.specs.declared.Search.{Search}
 use Rattle.rules.specs.declared.Refusal.{Refusal}
-use Rattle.rules.specs.declared.Refusal.TheVariants.{AxisCount, OutOfRange, BadLimits, BadStep, BadCoefficient, BadThreshold, BadBudget, SearchEnded, CostTooHigh, WrongNumber, NoReading, Damaged, RingAtHi}
+use Rattle.rules.specs.declared.Refusal.TheVariants.{AxisCount, OutOfRange, BadLimits, BadStep, BadCoefficient, BadThreshold, BadBudget, SearchEnded, CostTooHigh, WrongNumber, NoReading, Damaged, RingAtHi, RuleOfMethod}
 
 -- an axis that passes 2, 3, 13 and 4
 pub record Fits (x : Axis) : Type 0 where
@@ -33,17 +35,19 @@ pub record AxisRefused (n : ℕ) (axes : List Axis) (i : ℕ) (Own : Axis → Ty
   pub own : Own (get_or axes axis no_axis)
 
 -- what an opening that is refused has passed and failed
-abbrev pub OpeningRefused : ℕ → List Axis → Option Rule → Coefficients → ℕ → Refusal → Type 0
-OpeningRefused n axes rule c budget AxisCount = (leb 1 n && leb n 8) ≡ false
-OpeningRefused n axes rule c budget (OutOfRange i) = AxisRefused n axes i (λ x. all_in_range x ≡ false)
-OpeningRefused n axes rule c budget (BadLimits i) = AxisRefused n axes i (λ x. (all_in_range x ≡ true) × (in_limits x ≡ false))
-OpeningRefused n axes rule c budget (RingAtHi i) = AxisRefused n axes i (λ x. (all_in_range x ≡ true) × (in_limits x ≡ true) × (in_ring x ≡ false))
-OpeningRefused n axes rule c budget (BadStep i) = AxisRefused n axes i (λ x. (all_in_range x ≡ true) × (in_limits x ≡ true) × (in_ring x ≡ true) × (in_step x ≡ false))
-OpeningRefused n axes rule c budget BadCoefficient = Fit n n axes × (in_coefficients c ≡ false)
-OpeningRefused n axes rule c budget BadThreshold = Fit n n axes × (in_coefficients c ≡ true) × (in_threshold (rule_of rule) ≡ false)
-OpeningRefused n axes rule c budget BadBudget =
-    Fit n n axes × (in_coefficients c ≡ true) × (in_threshold (rule_of rule) ≡ true) × ((leb (n + 1) budget && leb budget 1000000) ≡ false)
-OpeningRefused n axes rule c budget _ = ⊥
+abbrev pub OpeningRefused : Method → ℕ → List Axis → Option Rule → Coefficients → ℕ → Refusal → Type 0
+OpeningRefused m n axes rule c budget AxisCount = (leb 1 n && leb n 8) ≡ false
+OpeningRefused m n axes rule c budget (OutOfRange i) = AxisRefused n axes i (λ x. all_in_range x ≡ false)
+OpeningRefused m n axes rule c budget (BadLimits i) = AxisRefused n axes i (λ x. (all_in_range x ≡ true) × (in_limits x ≡ false))
+OpeningRefused m n axes rule c budget (RingAtHi i) = AxisRefused n axes i (λ x. (all_in_range x ≡ true) × (in_limits x ≡ true) × (in_ring x ≡ false))
+OpeningRefused m n axes rule c budget (BadStep i) = AxisRefused n axes i (λ x. (all_in_range x ≡ true) × (in_limits x ≡ true) × (in_ring x ≡ true) × (in_step x ≡ false))
+OpeningRefused m n axes rule c budget BadCoefficient = Fit n n axes × (in_coefficients c ≡ false)
+OpeningRefused m n axes rule c budget BadThreshold = Fit n n axes × (in_coefficients c ≡ true) × (in_threshold (rule_of rule) ≡ false)
+OpeningRefused m n axes rule c budget RuleOfMethod =
+    Fit n n axes × (in_coefficients c ≡ true) × (in_threshold (rule_of rule) ≡ true) × (suits m (rule_of rule) ≡ false)
+OpeningRefused m n axes rule c budget BadBudget =
+    Fit n n axes × (in_coefficients c ≡ true) × (in_threshold (rule_of rule) ≡ true) × (suits m (rule_of rule) ≡ true) × ((leb (n + 1) budget && leb budget 1000000) ≡ false)
+OpeningRefused m n axes rule c budget _ = ⊥
 
 -- what an ask that is refused has passed and failed: 12, 8
 abbrev pub AskRefused : Search → Refusal → Type 0

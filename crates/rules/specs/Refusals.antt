@@ -1,9 +1,9 @@
 -- "Refused calls": what every call uses of the table, the number and the axis of each refusal and the order of the checks.
 use Rattle.std.specs.Prelude.{Bool, true, false, ℕ, Option, Some, None, Result, Ok, Err}
 use Rattle.rules.specs.declared.Refusal.{Refusal}
-use Rattle.rules.specs.declared.Refusal.TheVariants.{AxisCount, OutOfRange, BadLimits, BadStep, BadCoefficient, BadThreshold, BadBudget, SearchEnded, CostTooHigh, WrongNumber, NoReading, Damaged, RingAtHi}
+use Rattle.rules.specs.declared.Refusal.TheVariants.{AxisCount, OutOfRange, BadLimits, BadStep, BadCoefficient, BadThreshold, BadBudget, SearchEnded, CostTooHigh, WrongNumber, NoReading, Damaged, RingAtHi, RuleOfMethod}
 
--- the column "number" of the table, for each refusal, and document 02's 13
+-- the column "number" of the table, for each refusal, and document 02's 13 and 14
 abbrev pub number_of : Refusal → ℕ
 number_of AxisCount = 1
 number_of (OutOfRange axis) = 2
@@ -18,6 +18,7 @@ number_of WrongNumber = 10
 number_of NoReading = 11
 number_of Damaged = 12
 number_of (RingAtHi axis) = 13
+number_of RuleOfMethod = 14
 
 -- "Numbers 2 to 4 come with the axis, from 1", and "13 with its axis"
 abbrev pub axis_of : Refusal → Option ℕ
@@ -34,6 +35,7 @@ axis_of WrongNumber = None
 axis_of NoReading = None
 axis_of Damaged = None
 axis_of (RingAtHi axis) = Some axis
+axis_of RuleOfMethod = None
 
 -- what the checks of a call come to: they pass, or one of them refuses
 abbrev pub Verdict : Type 0

@@ -10,6 +10,7 @@ use Rattle.rules.specs.Cases.{bits, two_axes, verdict_on}
 use Rattle.rules.specs.Walks.{axis_at}
 use Rattle.rules.specs.Edges.{good_axis, leaping_axis, bad_coefficients, nan_axis}
 use Rattle.rules.specs.Claims.{within}
+use Rattle.rules.specs.declared.Method.TheVariants.{NelderMead}
 use Rattle.rules.specs.declared.Axis.{Axis}
 use Rattle.rules.specs.declared.Search.{Search}
 use Rattle.rules.specs.declared.Refusal.TheVariants.{OutOfRange, BadLimits, BadStep, RingAtHi}
@@ -131,12 +132,12 @@ ring_openings_given =
     ∷ verdict_on good_axis (ring_at 0x3ff0_0000_0000_0000 0x3ff0_0000_0000_0000 0x3ff0_0000_0000_0000 0x3ff0_0000_0000_0000) None
     ∷ verdict_on good_axis (ring_at 0xc020_0000_0000_0000 0x4020_0000_0000_0000 0x4020_0000_0000_0000 0x7ff8_0000_0000_0000) None
     -- lowest axis first: 13 before a NaN record, and after 4; before 5
-    ∷ verdict_on ring_at_hi nan_axis None ∷ verdict_on leaping_axis ring_at_hi None ∷ open_verdict 2 (two_axes good_axis ring_at_hi) None bad_coefficients 100
+    ∷ verdict_on ring_at_hi nan_axis None ∷ verdict_on leaping_axis ring_at_hi None ∷ open_verdict NelderMead 2 (two_axes good_axis ring_at_hi) None bad_coefficients 100
     -- 4 on a ring is as on any axis: half of hi − lo, and the float after it
     ∷ verdict_on good_axis (ring_at 0xc020_0000_0000_0000 0x4020_0000_0000_0000 0 0x4020_0000_0000_0000) None
     ∷ verdict_on good_axis (ring_at 0xc020_0000_0000_0000 0x4020_0000_0000_0000 0 0x4020_0000_0000_0001) None
     -- the eighth of eight, and past n, where it is not read
-    ∷ open_verdict 8 (replicate 7 good_axis ++ ring_at_hi ∷ []) None usual 100 ∷ open_verdict 7 (replicate 7 good_axis ++ ring_at_hi ∷ []) None usual 100
+    ∷ open_verdict NelderMead 8 (replicate 7 good_axis ++ ring_at_hi ∷ []) None usual 100 ∷ open_verdict NelderMead 7 (replicate 7 good_axis ++ ring_at_hi ∷ []) None usual 100
     ∷ []
 
 -- what document 02 says of each, in this order
@@ -164,7 +165,7 @@ rings_of s = map (λ (x : Axis). digit x.ring) s.setup.axes
 
 -- of eight rings, those past n are not read
 unfoldable pub rings_given : List (List ℕ)
-rings_given = rings_of (fresh 8 (replicate 8 (good_ring 0)) None usual 100) ∷ rings_of (fresh 3 (replicate 8 (good_ring 0)) None usual 100) ∷ []
+rings_given = rings_of (fresh NelderMead 8 (replicate 8 (good_ring 0)) None usual 100) ∷ rings_of (fresh NelderMead 3 (replicate 8 (good_ring 0)) None usual 100) ∷ []
 
 -- and no rings
 unfoldable pub rings_stated : List (List ℕ)

@@ -1,14 +1,14 @@
 -- "Build", "Iteration" and the probes of "Stopping, probe, restart": the trial that a search asks for next, its point and its stops, by its phase.
-use Rattle.std.specs.Prelude.{Bool, false, cond, ◌||◌, List, ℕ, zero, suc, ◌+◌, ◌-◌, ◌*◌, ◌/◌, ◌%◌, get_or, eqb, Float}
+use Rattle.std.specs.Prelude.{Bool, false, cond, ◌||◌, List, ℕ, zero, suc, ◌+◌, ◌-◌, ◌*◌, ◌/◌, ◌%◌, ◌&&◌, get_or, eqb, Float}
 use Rattle.std.specs.Float.{nan}
-use Rattle.rules.specs.Binary64.{probe_factor, float, clamp, clamp_changes, brought_round, ◌⊕◌, ◌⊖◌, ◌⊗◌, ◌⊘◌, ◌≤ᶠ◌}
+use Rattle.rules.specs.Binary64.{probe_factor, float, clamp, clamp_changes, brought_round, ◌⊕◌, ◌⊖◌, ◌⊗◌, ◌⊘◌, ◌≤ᶠ◌, ◌<ᶠ◌}
 use Rattle.rules.specs.Simplex.{point}
 use Rattle.rules.specs.declared.Axis.{Axis}
 use Rattle.rules.specs.declared.Setup.{Setup}
 use Rattle.rules.specs.declared.Trial.{Trial}
 use Rattle.rules.specs.declared.Search.{Search}
 use Rattle.rules.specs.declared.Phase.{Phase}
-use Rattle.rules.specs.declared.Phase.TheVariants.{Building, Reflecting, Expanding, Contracting, Shrinking, Probing, Ended}
+use Rattle.rules.specs.declared.Phase.TheVariants.{Building, Reflecting, Expanding, Contracting, Shrinking, Basing, Mirroring, Checking, Probing, Ended}
 use Rattle.rules.specs.declared.Side.TheVariants.{Outside, Inside}
 
 -- what a read past the eighth record would give; no rule reads there
@@ -26,6 +26,10 @@ brought_in x v = cond x.ring (brought_round x.lo x.hi v) (clamp x.lo x.hi v)
 -- whether the clamp changes it there: "Being brought round never counts as standing at a stop"
 abbrev pub at_stop : Axis → Float → Bool
 at_stop x v = cond x.ring false (clamp_changes x.lo x.hi v)
+
+-- v is a position of the axis x, by the clamp's own comparisons: lo ≤ v ≤ hi; on a ring "lo ≤ v < hi"
+abbrev pub within : Axis → Float → Bool
+within x v = (x.lo ≤ᶠ v) && cond x.ring (v <ᶠ x.hi) (v ≤ᶠ x.hi)
 
 -- v brought into axis a: "Every trial is clamped axis by axis"
 abbrev pub brought : Setup → ℕ → Float → Float
@@ -72,6 +76,10 @@ toward_worst t ps a = let c = centroid t.n ps a in move c t.coefficients.beta (e
 abbrev pub shrunk : Setup → List Float → ℕ → ℕ → Float
 shrunk t ps j a = move (entry ps a 0) t.coefficients.sigma (entry ps a j) (entry ps a 0)
 
+-- "x0 + (x0 − xi)", reflection i
+abbrev pub mirrored : List Float → ℕ → ℕ → Float
+mirrored ps i a = entry ps a 0 ⊕ (entry ps a 0 ⊖ entry ps a i)
+
 -- "u = start + step; take u if u ≤ hi, else .. start − step", around the coordinate v; on a ring "always .. start + step"
 abbrev pub stepped : Axis → Float → Float
 stepped x v = cond (x.ring || (v ⊕ x.step ≤ᶠ x.hi)) (v ⊕ x.step) (v ⊖ x.step)
@@ -92,6 +100,11 @@ target s Expanding a = toward_reflected s.setup s.standing.points s.setup.coeffi
 target s (Contracting Outside) a = toward_reflected s.setup s.standing.points s.setup.coefficients.beta a
 target s (Contracting Inside) a = toward_worst s.setup s.standing.points a
 target s (Shrinking j) a = shrunk s.setup s.standing.points j a
+-- "only the base is read first"
+target s Basing a = get_or s.center a nan
+target s (Mirroring i) a = mirrored s.standing.points i a
+-- "it reads the unread companions"
+target s (Checking i) a = entry s.standing.points a i
 target s (Probing p) a = probe_step (axis s.setup a) (get_or s.best.point a nan) p a
 target s (Ended cause) a = nan
 
@@ -104,9 +117,14 @@ stops_to t f (suc k) = stops_to t f k + cond (stopped t k (f k)) 1 0
 abbrev pub made : Setup → ℕ → (ℕ → Float) → Trial
 made t n f = record { point = point n (λ a. brought t a (f a)); stops = stops_to t f n }
 
+-- its stops in each phase: "Each companion is clamped when made; its trial carries that count", which stands beside it
+abbrev pub stops_in : Phase → Search → ℕ
+stops_in (Checking i) s = get_or s.stops i 0
+stops_in p s = stops_to s.setup (target s p) s.setup.n
+
 -- the trial that the search s would ask in each phase
 abbrev pub trial_in : Phase → Search → Trial
-trial_in p s = made s.setup s.setup.n (target s p)
+trial_in p s = record { point = (made s.setup s.setup.n (target s p)).point; stops = stops_in p s }
 
 -- its point
 abbrev pub point_in : Phase → Search → List Float

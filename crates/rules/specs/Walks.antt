@@ -9,6 +9,7 @@ use Rattle.rules.specs.Accept.{accept}
 use Rattle.rules.specs.Refusals.{Verdict}
 use Rattle.rules.specs.Opening.{zero_axis, open_verdict, fresh}
 use Rattle.rules.specs.Cases.{bits, two_axes}
+use Rattle.rules.specs.declared.Method.TheVariants.{NelderMead}
 use Rattle.rules.specs.declared.Axis.{Axis}
 use Rattle.rules.specs.declared.Coefficients.{Coefficients}
 use Rattle.rules.specs.declared.Opening.{Opening}
@@ -25,11 +26,11 @@ coefficients_at alpha chi beta sigma = record { alpha = bits alpha; chi = bits c
 
 -- the verdict on an opening
 abbrev pub judged : Opening → Verdict
-judged o = open_verdict o.n o.axes o.rule o.coefficients o.budget
+judged o = open_verdict NelderMead o.n o.axes o.rule o.coefficients o.budget
 
 -- the search of an opening that is not refused
 abbrev pub begun : Opening → Search
-begun o = fresh o.n o.axes o.rule o.coefficients o.budget
+begun o = fresh NelderMead o.n o.axes o.rule o.coefficients o.budget
 
 -- the coordinates that a search asks for, by their bits; none where it has ended
 abbrev pub asked_bits : Search → List ℕ

@@ -48,10 +48,18 @@ pub enum Rule {
     Size(f64),
 }
 
-// What an opening asks for: the axis count n, eight axis records of which those past n are not read, a stopping rule or
+// How a search goes: Nelder-Mead's, which moves a simplex, or the multidirectional one, which moves a base and its companions.
+#[derive(Clone, Copy)]
+pub enum Method {
+    NelderMead,
+    Multidirectional,
+}
+
+// What an opening asks for: the method, the axis count n, eight axis records of which those past n are not read, a stopping rule or
 // none, the coefficients and the budget. Document 01 gives n and eight records.
 #[derive(Clone, Copy)]
 pub struct Opening {
+    pub method: Method,
     pub n: usize,
     pub axes: [Axis; 8],
     pub rule: Option<Rule>,
@@ -86,6 +94,12 @@ pub enum Phase {
     Contracting(Side),
     // the shrunk point for place j, counted from 0, so 1 to n
     Shrinking(usize),
+    // the base of a multidirectional search, which has no companions yet
+    Basing,
+    // the reflection of companion i through the base, 1 to n
+    Mirroring(usize),
+    // companion i, 1 to n, which is unread
+    Checking(usize),
     // probe p of a round, from 0
     Probing(usize),
     Ended(Cause),
@@ -96,15 +110,17 @@ pub enum Phase {
 pub enum View {
     // trial i of a build
     Builds(usize),
-    // an iteration, which has gathered so many vertices
+    // an iteration of Nelder-Mead, which has gathered so many vertices
     Iterates(usize),
+    // a multidirectional iteration
+    Turns,
     // probe p of a round
     Probes(usize),
     // no trial is asked any more
     Over(Cause),
 }
 
-// A build, or an iteration by the row of the table that ends it: what the counts count.
+// A build, an iteration of Nelder-Mead by the row of the table that ends it, or a multidirectional iteration: what the counts count.
 #[derive(Clone, Copy)]
 pub enum Piece {
     Build,
@@ -112,6 +128,7 @@ pub enum Piece {
     Expansion,
     Contraction,
     Shrink,
+    Pattern,
 }
 
 // Who enters the simplex when a point is taken.
@@ -132,6 +149,23 @@ pub enum Keeping {
     Joined,
     // x1 alone: a shrink begins
     First,
+    // the trial, as the i-th reflection that this iteration was told
+    Told(usize),
+    // nothing more, but companion i stands as read
+    Read(usize),
+}
+
+// How a base and its companions come to stand.
+#[derive(Clone, Copy)]
+pub enum Change {
+    // the trial is the base, and companions are built around it
+    Built,
+    // reflection j is the base, and the reflections are its companions, but for the old base
+    Mirrored(usize),
+    // companion j is the base, and the old base is companion j
+    Swapped(usize),
+    // the companions go half the way to the base
+    Halved,
 }
 
 // What a reading decides, by the table.
@@ -146,6 +180,9 @@ pub enum Decision {
     Stand(Piece),
     // a probe was lower: a build goes around it, from trial 1 on, with the probe gathered
     Restart,
+    // a base and its companions stand so; but where they are built that ends an iteration: it is counted, the rule is tested; nothing is
+    // gathered
+    Regroup(Change),
 }
 
 // A point to be measured, and how many axes of it the clamp changed: its stops. Coordinates past the axis count are 0.
@@ -172,8 +209,8 @@ pub struct Simplex {
     pub numbers: [u64; 9],
 }
 
-// Finished builds, reflections, expansions, contractions and shrinks; probe readings; and the readings
-// told in the unfinished piece, which document 01 calls Open.
+// Finished builds, reflections, expansions, contractions and shrinks; finished multidirectional iterations, as patterns, and the readings told in
+// them, as directed; probe readings; and the readings told in the unfinished piece, which document 01 calls Open.
 #[derive(Clone, Copy, Default)]
 pub struct Counts {
     pub builds: u64,
@@ -181,8 +218,10 @@ pub struct Counts {
     pub expansions: u64,
     pub contractions: u64,
     pub shrinks: u64,
+    pub patterns: u64,
     pub probes: u64,
     pub unfinished: u64,
+    pub directed: u64,
 }
 
 // What an opening fixes for good: the axis count n, the axes (zero records past n), coefficients, rule and budget. n beside eight records is
@@ -197,14 +236,17 @@ pub struct Setup {
 }
 
 // A search: the standing simplex is that of the last finished build or iteration, the gathered one holds
-// what an unfinished build or iteration has so far, and the center is the point that a build goes around. The best is zeros until there is
-// a reading, and no Option: document 01 has a closed search all zero.
+// what an unfinished build or iteration has so far, and the center is the point that a build goes around. In the multidirectional method the base
+// stands at place 1 and companion i at place i + 1, an unread one with the number 0 and its stops beside; the reflections told in the running
+// iteration are gathered. The best is zeros until there is a reading, and no Option: document 01 has a closed search all zero.
 #[derive(Clone, Copy)]
 pub struct Search {
     pub setup: Setup,
+    pub method: Method,
     pub phase: Phase,
     pub standing: Simplex,
     pub gathered: Simplex,
+    pub stops: [u64; 9],
     pub center: [f64; 8],
     pub readings: u64,
     pub best: Vertex,
@@ -227,6 +269,7 @@ pub enum Refusal {
     NoReading,
     Damaged,
     RingAtHi(usize),
+    RuleOfMethod,
 }
 
 // The answer of an opening: whether it is accepted, and the search, which is closed where it is not. Document 01 has a search in both,

@@ -5,8 +5,7 @@ use mathlib.Core.Logic.{◌↔◌, ◌⊎◌, ⊎_elim}
 use lib.Ieee.{Float, nan}
 use Rattle.std.proofs.lemmas.Bool.{cases_Bool}
 use Rattle.rules.specs.Binary64.{brought_round, ◌<ᶠ◌}
-use Rattle.rules.specs.Trial.{brought_in, at_stop}
-use Rattle.rules.specs.Claims.{within}
+use Rattle.rules.specs.Trial.{brought_in, at_stop, within}
 use Rattle.rules.specs.declared.Axis.{Axis}
 use Rattle.rules.proofs.Laws.Clamp.{lt_le, clamp_low, clamp_high, clamp_inside, clamp_again, clamp_nan, changes_outside, changes_when, changed_to_limit}
 use Rattle.rules.proofs.Laws.Ring.{round_low, round_high, round_inside, round_again, round_nan}

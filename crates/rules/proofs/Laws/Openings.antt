@@ -13,17 +13,20 @@ use borrow.Author.Tests.{leb-true}
 use Rattle.std.proofs.lemmas.List.{places}
 use Rattle.rules.specs.Binary64.{◌<ᶠ◌}
 use Rattle.rules.specs.Numbers.{max_budget}
-use Rattle.rules.specs.Trial.{no_axis, axis, brought, target, trial}
+use Rattle.rules.specs.Trial.{no_axis, axis, brought, target, stops_to, stops_in, trial}
 use Rattle.rules.specs.Refusals.{Verdict, check, answered}
 use Rattle.rules.specs.Opening.{in_threshold, axis_checks, axes_checks, rule_of, keep, fresh, opened_by, open_verdict, opening}
 use Rattle.rules.specs.Calls.{sound_rule}
 use Rattle.rules.specs.Claims.{Within, StopsOf}
+use Rattle.rules.specs.declared.Method.{Method}
 use Rattle.rules.specs.declared.Axis.{Axis}
 use Rattle.rules.specs.declared.Coefficients.{Coefficients}
 use Rattle.rules.specs.declared.Rule.{Rule}
 use Rattle.rules.specs.declared.Rule.TheVariants.{Spread}
 use Rattle.rules.specs.declared.Setup.{Setup}
 use Rattle.rules.specs.declared.Search.{Search}
+use Rattle.rules.specs.declared.Phase.{Phase}
+use Rattle.rules.specs.declared.Phase.TheVariants.{Checking}
 use Rattle.rules.specs.declared.Refusal.{Refusal}
 use Rattle.rules.proofs.Laws.Lists.{get_or_point}
 use Rattle.rules.proofs.Laws.Axes.{brought_within}
@@ -89,18 +92,18 @@ pub record Sane (t : Setup) : Type 0 where
   pub rule : sound_rule t.rule ≡ true
   pub limits : (a : ℕ) → a < t.n → ((axis t a).lo <ᶠ (axis t a).hi) ≡ true
 
-module _ (n : ℕ) (axes : List Axis) (rule : Option Rule) (c : Coefficients) (budget : ℕ) where
+module _ (m : Method) (n : ℕ) (axes : List Axis) (rule : Option Rule) (c : Coefficients) (budget : ℕ) where
   -- where the answer to an opening accepts, the checks accept
-  pub opened_verdict : (opening n axes rule c budget).verdict ≡ Ok tt → open_verdict n axes rule c budget ≡ Ok tt
+  pub opened_verdict : (opening m n axes rule c budget).verdict ≡ Ok tt → open_verdict m n axes rule c budget ≡ Ok tt
   unfolding opening
-  opened_verdict h = sym (opened_by_verdict (open_verdict n axes rule c budget) (fresh n axes rule c budget)) ∙ h
+  opened_verdict h = sym (opened_by_verdict (open_verdict m n axes rule c budget) (fresh m n axes rule c budget)) ∙ h
 
   -- where the answer to an opening accepts, its search is the fresh one
-  pub opened_fresh : (opening n axes rule c budget).verdict ≡ Ok tt → (opening n axes rule c budget).search ≡ fresh n axes rule c budget
+  pub opened_fresh : (opening m n axes rule c budget).verdict ≡ Ok tt → (opening m n axes rule c budget).search ≡ fresh m n axes rule c budget
   unfolding opening
   opened_fresh h = rw (opened_verdict h)
 
-  module _ (h : open_verdict n axes rule c budget ≡ Ok tt) where
+  module _ (h : open_verdict m n axes rule c budget ≡ Ok tt) where
     -- where the checks of an opening accept, each axis has lo < hi
     below : (a : ℕ) → a < n → ((get_or axes a no_axis).lo <ᶠ (get_or axes a no_axis).hi) ≡ true
     unfolding open_verdict
@@ -109,12 +112,12 @@ module _ (n : ℕ) (axes : List Axis) (rule : Option Rule) (c : Coefficients) (b
         (axes_pass _ 0 axes _ counts.1).0 a (omega arith) (omega (arith, leb-true))
 
     -- where the checks of an opening accept, the search keeps the axes that it was given
-    pub opened_axis : (a : ℕ) → a < n → axis (fresh n axes rule c budget).setup a ≡ get_or axes a no_axis
+    pub opened_axis : (a : ℕ) → a < n → axis (fresh m n axes rule c budget).setup a ≡ get_or axes a no_axis
     unfolding fresh
     opened_axis a l = kept_axis n axes a l (in_list axes a (below a l))
 
     -- where the checks of an opening accept, its setup is sane
-    pub opened_sane : Sane (fresh n axes rule c budget).setup
+    pub opened_sane : Sane (fresh m n axes rule c budget).setup
     unfolding fresh open_verdict
     opened_sane =
         let counts = simp (check_iff, and-eq-true_iff) at h in
@@ -135,7 +138,12 @@ pub trial_within : (s : Search) → Sane s.setup → Within s.setup (trial s).po
 unfolding trial
 trial_within s h a l = rw (get_or_point s.setup.n (λ b. brought s.setup b (target s s.phase b)) a l) (brought_within (axis s.setup a) (target s s.phase a) (h.limits a l))
 
--- its stops count the axes on which the clamp acts
-pub trial_stops : (s : Search) → Sane s.setup → StopsOf s.setup (target s s.phase) (trial s)
+-- the stops of every trial but that of a companion are counted where it is asked
+stops_now : (p : Phase) (s : Search) → ((i : ℕ) → p ≡ Checking i → ⊥) → stops_in p s ≡ stops_to s.setup (target s p) s.setup.n
+stops_now (Checking i) s h = absurd (h i refl)
+stops_now p s h = refl
+
+-- and count the axes on which the clamp acts
+pub trial_stops : (s : Search) → Sane s.setup → ((i : ℕ) → s.phase ≡ Checking i → ⊥) → StopsOf s.setup (target s s.phase) (trial s)
 unfolding trial
-trial_stops s h = stops_of s.setup (target s s.phase) h.limits
+trial_stops s h c = rw (stops_now s.phase s c) (stops_of s.setup (target s s.phase) h.limits)

@@ -15,15 +15,17 @@ use lib.ListN.{get_or}
 use borrow.Author.Tests.{not-true}
 use Rattle.rules.specs.Trial.{no_axis}
 use Rattle.rules.specs.Refusals.{Verdict, check}
+use Rattle.rules.specs.Stop.{suits}
 use Rattle.rules.specs.Opening.{all_in_range, in_limits, in_ring, in_step, in_coefficients, in_threshold, rule_of, axis_checks, axes_checks, open_verdict, closed, opening}
 use Rattle.rules.specs.Calls.{undamaged, ask_verdict, tell_verdict, best_verdict}
 use Rattle.rules.specs.Precedence.{Fits, Fit, AxisRefused, OpeningRefused, AskRefused, TellRefused, BestRefused}
+use Rattle.rules.specs.declared.Method.{Method}
 use Rattle.rules.specs.declared.Axis.{Axis}
 use Rattle.rules.specs.declared.Coefficients.{Coefficients}
 use Rattle.rules.specs.declared.Rule.{Rule}
 use Rattle.rules.specs.declared.Search.{Search}
 use Rattle.rules.specs.declared.Refusal.{Refusal}
-use Rattle.rules.specs.declared.Refusal.TheVariants.{AxisCount, OutOfRange, BadLimits, BadStep, BadCoefficient, BadThreshold, BadBudget, SearchEnded, CostTooHigh, WrongNumber, NoReading, Damaged, RingAtHi}
+use Rattle.rules.specs.declared.Refusal.TheVariants.{AxisCount, OutOfRange, BadLimits, BadStep, BadCoefficient, BadThreshold, BadBudget, SearchEnded, CostTooHigh, WrongNumber, NoReading, Damaged, RingAtHi, RuleOfMethod}
 
 -- the refusal of a verdict, r where it accepts
 refusal_in : Refusal → Verdict → Refusal
@@ -92,15 +94,15 @@ axes_fail (suc k) i xs v r a l u before own =
     (λ m. axis_lets (i + 1) (get_or xs i no_axis) (axes_checks k (suc i) xs v) (before i m) ∙ axes_fail k (suc i) xs v r a m (omega arith) before own)
     (eq-or-lt_of_le l)
 
-module _ (n : ℕ) (axes : List Axis) (rule : Option Rule) (c : Coefficients) (budget : ℕ) where
+module _ (m : Method) (n : ℕ) (axes : List Axis) (rule : Option Rule) (c : Coefficients) (budget : ℕ) where
   -- "A refused opening returns a closed search"
-  pub refused_closed : (r : Refusal) → open_verdict n axes rule c budget ≡ Err r → (opening n axes rule c budget).search ≡ closed
+  pub refused_closed : (r : Refusal) → open_verdict m n axes rule c budget ≡ Err r → (opening m n axes rule c budget).search ≡ closed
   unfolding opening
   refused_closed r h = rw h refl
 
   -- one axis's part in the opening's refusals, where the axes before it fit
   axis_cases : (leb 1 n && leb n 8) ≡ true → (a : ℕ) → a < n → ((j : ℕ) → j < a → Fits (get_or axes j no_axis))
-      → AxisCases (OpeningRefused n axes rule c budget) (a + 1) (get_or axes a no_axis)
+      → AxisCases (OpeningRefused m n axes rule c budget) (a + 1) (get_or axes a no_axis)
   axis_cases p a l before =
       let fit : Fit n a axes = record { count = p; each = before } in
       record {
@@ -111,21 +113,22 @@ module _ (n : ℕ) (axes : List Axis) (rule : Option Rule) (c : Coefficients) (b
       }
 
   -- a refused opening has failed the check of its refusal and passed those before
-  opening_fails : (r : Refusal) → open_verdict n axes rule c budget ≡ Err r → OpeningRefused n axes rule c budget r
+  opening_fails : (r : Refusal) → open_verdict m n axes rule c budget ≡ Err r → OpeningRefused m n axes rule c budget r
   unfolding open_verdict
   opening_fails r h =
-      let P = OpeningRefused n axes rule c budget in
+      let P = OpeningRefused m n axes rule c budget in
       check_refuses P (leb 1 n && leb n 8) AxisCount _ r h (λ f. f)
       (λ p k. axes_refuse P n 0 axes _ r k (λ a l. absurd (omega arith)) (λ a l. axis_cases p a (omega arith))
-      (λ fits m.
+      (λ fits w.
       let fit : Fit n n axes = record { count = p; each = λ a l. fits a (omega arith) } in
-      check_refuses P (in_coefficients c) BadCoefficient _ r m (λ f. (fit, f))
-      (λ q m2. check_refuses P (in_threshold (rule_of rule)) BadThreshold _ r m2 (λ f. (fit, q, f))
-      (λ t m3. check_refuses P (leb (n + 1) budget && leb budget 1000000) BadBudget (Ok tt) r m3 (λ f. (fit, q, t, f)) (λ b k2. absurd cc)))))
+      check_refuses P (in_coefficients c) BadCoefficient _ r w (λ f. (fit, f))
+      (λ q w2. check_refuses P (in_threshold (rule_of rule)) BadThreshold _ r w2 (λ f. (fit, q, f))
+      (λ t w3. check_refuses P (suits m (rule_of rule)) RuleOfMethod _ r w3 (λ f. (fit, q, t, f))
+      (λ u w4. check_refuses P (leb (n + 1) budget && leb budget 1000000) BadBudget (Ok tt) r w4 (λ f. (fit, q, t, u, f)) (λ b k2. absurd cc))))))
 
   -- where an axis refuses after all that stands before it, so does the opening
   axis_given : (r : Refusal) (i : ℕ) (Own : Axis → Type 0) → AxisRefused n axes i Own → ((x : Axis) (w : Verdict) → Own x → axis_checks i x w ≡ Err r)
-      → open_verdict n axes rule c budget ≡ Err r
+      → open_verdict m n axes rule c budget ≡ Err r
   unfolding open_verdict
   axis_given r i Own h own =
       rw h.before.count
@@ -133,14 +136,14 @@ module _ (n : ℕ) (axes : List Axis) (rule : Option Rule) (c : Coefficients) (b
 
   -- where the count and the axes are good, the checks after them decide
   later_given : Fit n n axes
-      → open_verdict n axes rule c budget
+      → open_verdict m n axes rule c budget
       ≡ check (in_coefficients c) BadCoefficient
-      (check (in_threshold (rule_of rule)) BadThreshold (check (leb (n + 1) budget && leb budget 1000000) BadBudget (Ok tt)))
+      (check (in_threshold (rule_of rule)) BadThreshold (check (suits m (rule_of rule)) RuleOfMethod (check (leb (n + 1) budget && leb budget 1000000) BadBudget (Ok tt))))
   unfolding open_verdict
   later_given fit = rw fit.count (axes_let n 0 axes _ (λ a l. fit.each a (omega arith)))
 
   -- and where it has, it is refused so
-  opening_given : (r : Refusal) → OpeningRefused n axes rule c budget r → open_verdict n axes rule c budget ≡ Err r
+  opening_given : (r : Refusal) → OpeningRefused m n axes rule c budget r → open_verdict m n axes rule c budget ≡ Err r
   unfolding open_verdict
   opening_given AxisCount f = rw f refl
   opening_given (OutOfRange i) h = axis_given (OutOfRange i) i _ h (λ x w o. rw o refl)
@@ -149,11 +152,12 @@ module _ (n : ℕ) (axes : List Axis) (rule : Option Rule) (c : Coefficients) (b
   opening_given (BadStep i) h = axis_given (BadStep i) i _ h (λ x w o. rw (o.0, o.1, o.2, o.3) refl)
   opening_given BadCoefficient h = later_given h.0 ∙ rw h.1 refl
   opening_given BadThreshold h = later_given h.0 ∙ rw (h.1, h.2) refl
-  opening_given BadBudget h = later_given h.0 ∙ rw (h.1, h.2, h.3) refl
+  opening_given RuleOfMethod h = later_given h.0 ∙ rw (h.1, h.2, h.3) refl
+  opening_given BadBudget h = later_given h.0 ∙ rw (h.1, h.2, h.3, h.4) refl
   opening_given r h = absurd h
 
   -- the opening's checks run in their order
-  pub opening_checks : (r : Refusal) → (open_verdict n axes rule c budget ≡ Err r) ↔ OpeningRefused n axes rule c budget r
+  pub opening_checks : (r : Refusal) → (open_verdict m n axes rule c budget ≡ Err r) ↔ OpeningRefused m n axes rule c budget r
   opening_checks r = (opening_fails r, opening_given r)
 
 module _ (s : Search) where
