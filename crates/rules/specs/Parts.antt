@@ -11,6 +11,7 @@ use Rattle.rules.specs.Examples.{after_costs}
 use Rattle.rules.specs.Cases.{bits}
 use Rattle.rules.specs.Answers.{fresh_with}
 use Rattle.rules.specs.Walks.{begun, odd, odd_costs, rounds, rounds_costs}
+use Rattle.rules.specs.declared.Method.TheVariants.{NelderMead}
 use Rattle.rules.specs.declared.Opening.{Opening}
 use Rattle.rules.specs.declared.Simplex.{Simplex}
 use Rattle.rules.specs.declared.Search.{Search}
@@ -182,11 +183,13 @@ closed_stated =
             rule = Spread 0;
             budget = 0;
           };
+      method = NelderMead;
       phase = Ended Budget;
       standing = empty;
       gathered = empty;
+      stops = replicate 9 0;
       center = replicate 8 (bits 0);
       readings = 0;
       best = record { point = replicate 8 (bits 0); cost = 0; number = 0 };
-      counts = record { builds = 0; reflections = 0; expansions = 0; contractions = 0; shrinks = 0; probes = 0; unfinished = 0 };
+      counts = record { builds = 0; reflections = 0; expansions = 0; contractions = 0; shrinks = 0; patterns = 0; probes = 0; unfinished = 0; directed = 0 };
     }

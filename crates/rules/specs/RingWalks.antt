@@ -8,6 +8,7 @@ use Rattle.rules.specs.Cases.{bits, two_axes}
 use Rattle.rules.specs.Walks.{axis_at, coefficients_at, judged, begun, walk_by, odd_coefficients}
 use Rattle.rules.specs.Causes.{with_phase}
 use Rattle.rules.specs.Stops.{asked_counted, limits, over}
+use Rattle.rules.specs.declared.Method.TheVariants.{NelderMead}
 use Rattle.rules.specs.declared.Axis.{Axis}
 use Rattle.rules.specs.declared.Opening.{Opening}
 use Rattle.rules.specs.declared.Rule.{Rule}
@@ -19,6 +20,7 @@ use Rattle.rules.specs.Rings.{ring_at}
 abbrev pub rotator : Opening
 rotator =
     record {
+      method = NelderMead;
       n = 2;
       axes = two_axes (ring_at 0xbfe3_3333_3333_3333 0x3ffc_cccc_cccc_cccd 0x3ffb_3333_3333_3333 0x3ff1_9999_9999_999a)
           (axis_at 0xbff0_0000_0000_0000 0x3fe3_3333_3333_3333 0x3fd3_3333_3333_3333 0x3fe9_9999_9999_999a);
@@ -68,6 +70,7 @@ rotator_trials =
 abbrev pub from_lo : Opening
 from_lo =
     record {
+      method = NelderMead;
       n = 2;
       axes = two_axes (axis_at 0xbff0_0000_0000_0000 0x3fe3_3333_3333_3333 0x3fd3_3333_3333_3333 0x3fe9_9999_9999_999a)
           (ring_at 0xbfe3_3333_3333_3333 0x3ffc_cccc_cccc_cccd 0xbfe3_3333_3333_3333 0x3fe6_6666_6666_6666);
@@ -122,6 +125,7 @@ from_lo_trials =
 abbrev pub two_rings : Opening
 two_rings =
     record {
+      method = NelderMead;
       n = 2;
       axes = two_axes (ring_at 0x3fb9_9999_9999_999a 0x3fe6_6666_6666_6666 0x3fe0_0000_0000_0000 0x3fd0_0000_0000_0000)
           (ring_at 0xbfd3_3333_3333_3333 0x3ff1_9999_9999_999a 0x3ff0_0000_0000_0000 0x3fe3_3333_3333_3333);
@@ -167,6 +171,7 @@ two_rings_trials =
 abbrev pub near_hi : ℕ → Opening
 near_hi e =
     record {
+      method = NelderMead;
       n = 1;
       axes = ring_at 0x3fe3_3333_3333_3333 0x3ffc_cccc_cccc_cccd 0x3ffc_cc63_f141_205c 0x3fe0_0000_0000_0000 ∷ replicate 7 zero_axis;
       rule = Some (Spread e);
@@ -218,6 +223,7 @@ drawn_trials =
 abbrev pub high : Opening
 high =
     record {
+      method = NelderMead;
       n = 3;
       axes = ring_at 0xc020_0000_0000_0000 0x3fe9_9999_9999_999b 0x3fe9_9999_9999_999a 0x4006_6666_6666_6666
           ∷ axis_at 0xc020_0000_0000_0000 0x4020_0000_0000_0000 0 0x3ff0_0000_0000_0000
@@ -267,6 +273,7 @@ ring_walks_stated = rotator_trials ∷ from_lo_trials ∷ two_rings_trials ∷ p
 abbrev pub across : Rule → Opening
 across rule =
     record {
+      method = NelderMead;
       n = 1;
       axes = ring_at 0xc020_0000_0000_0000 0x4020_0000_0000_0000 0x401e_0000_0000_0000 0x3ff0_0000_0000_0000 ∷ replicate 7 zero_axis;
       rule = Some rule;

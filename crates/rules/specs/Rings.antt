@@ -2,14 +2,13 @@
 use Rattle.std.specs.Prelude.{Bool, true, cond, List, [], ◌∷◌, ◌++◌, map, ℕ, replicate, None, Ok, Err}
 use Rattle.std.specs.Float.{binary64}
 use Rattle.std.specs.Float.Ieee.{to_bits}
-use Rattle.rules.specs.Trial.{brought_in, at_stop}
+use Rattle.rules.specs.Trial.{brought_in, at_stop, within}
 use Rattle.rules.specs.Numbers.{usual}
 use Rattle.rules.specs.Refusals.{Verdict}
 use Rattle.rules.specs.Opening.{open_verdict, fresh}
 use Rattle.rules.specs.Cases.{bits, two_axes, verdict_on}
 use Rattle.rules.specs.Walks.{axis_at}
 use Rattle.rules.specs.Edges.{good_axis, leaping_axis, bad_coefficients, nan_axis}
-use Rattle.rules.specs.Claims.{within}
 use Rattle.rules.specs.declared.Method.TheVariants.{NelderMead}
 use Rattle.rules.specs.declared.Axis.{Axis}
 use Rattle.rules.specs.declared.Search.{Search}

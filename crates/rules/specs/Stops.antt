@@ -11,6 +11,7 @@ use Rattle.rules.specs.Cases.{two_axes}
 use Rattle.rules.specs.Walks.{axis_at, coefficients_at, odd_coefficients, begun, asked_bits, walk_by, odd, odd_costs, wide, wide_costs, zeros, zeros_costs, rounds, rounds_costs}
 use Rattle.rules.specs.Parts.{at}
 use Rattle.rules.specs.Causes.{with_phase}
+use Rattle.rules.specs.declared.Method.TheVariants.{NelderMead}
 use Rattle.rules.specs.declared.Axis.{Axis}
 use Rattle.rules.specs.declared.Opening.{Opening}
 use Rattle.rules.specs.declared.Rule.TheVariants.{Spread}
@@ -32,6 +33,7 @@ asked_counted s = asked_bits s ++ asked_stops s
 abbrev pub narrow : Opening
 narrow =
     record {
+      method = NelderMead;
       n = 2;
       axes = two_axes (axis_at 0xbfe3_3333_3333_3333 0x3ffc_cccc_cccc_cccd 0x3fe6_6666_6666_6666 0x3ff1_9999_9999_999a)
           (axis_at 0xbff0_0000_0000_0000 0x3fe3_3333_3333_3333 0x3fd3_3333_3333_3333 0x3fe9_9999_9999_999a);
@@ -72,6 +74,7 @@ narrow_trials =
 abbrev pub between : Opening
 between =
     record {
+      method = NelderMead;
       n = 1;
       axes = axis_at 0xbfec_efed_cc22_af58 0x3ff7_af02_08d6_af57 0x3fd2_6e16_458a_af56 0x3ff3_137c_7774_0382 ∷ replicate 7 zero_axis;
       rule = Some (Spread 1);
@@ -88,6 +91,7 @@ between_trials = (0x3fd2_6e16_458a_af56 ∷ 0 ∷ []) ∷ (0xbfec_efed_cc22_af58
 abbrev pub level : Opening
 level =
     record {
+      method = NelderMead;
       n = 3;
       axes = axis_at 0xc020_0000_0000_0000 0x3fe9_9999_9999_999a 0x3fe9_9999_9999_999a 0x4006_6666_6666_6666
           ∷ axis_at 0xc020_0000_0000_0000 0x4020_0000_0000_0000 0 0x3ff0_0000_0000_0000

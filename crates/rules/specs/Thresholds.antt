@@ -7,6 +7,7 @@ use Rattle.rules.specs.Opening.{zero_axis}
 use Rattle.rules.specs.Examples.{example_axis, Shows, asks, after_costs, next}
 use Rattle.rules.specs.Cases.{bits, case_axis, two_axes}
 use Rattle.rules.specs.Walks.{axis_at, odd_coefficients, begun}
+use Rattle.rules.specs.declared.Method.TheVariants.{NelderMead}
 use Rattle.rules.specs.declared.Axis.{Axis}
 use Rattle.rules.specs.declared.Opening.{Opening}
 use Rattle.rules.specs.declared.Rule.{Rule}
@@ -14,20 +15,21 @@ use Rattle.rules.specs.declared.Rule.TheVariants.{Spread, Moved, Size}
 
 -- two axes like those of document 01's examples, and another rule
 abbrev pub even : Option Rule → Opening
-even rule = record { n = 2; axes = two_axes (example_axis 8ᶠ) (example_axis 8ᶠ); rule = rule; coefficients = usual; budget = 100 }
+even rule = record { method = NelderMead; n = 2; axes = two_axes (example_axis 8ᶠ) (example_axis 8ᶠ); rule = rule; coefficients = usual; budget = 100 }
 
 -- three of them, and spread e
 abbrev pub three : ℕ → Opening
-three e = record { n = 3; axes = replicate 8 (example_axis 8ᶠ); rule = Some (Spread e); coefficients = usual; budget = 100 }
+three e = record { method = NelderMead; n = 3; axes = replicate 8 (example_axis 8ᶠ); rule = Some (Spread e); coefficients = usual; budget = 100 }
 
 -- two axes from −8 to 8, started at 2, and moved with the E of these bits
 abbrev pub from_2 : ℕ → Opening
-from_2 e = record { n = 2; axes = two_axes (case_axis 2ᶠ 8ᶠ) (case_axis 2ᶠ 8ᶠ); rule = Some (Moved (bits e)); coefficients = usual; budget = 100 }
+from_2 e = record { method = NelderMead; n = 2; axes = two_axes (case_axis 2ᶠ 8ᶠ) (case_axis 2ᶠ 8ᶠ); rule = Some (Moved (bits e)); coefficients = usual; budget = 100 }
 
 -- three axes started at (0, 2, 0.8) with the steps 1.7, 0.1 and 0.9, σ 0.6, and moved with the E of these bits
 abbrev pub inexact : ℕ → Opening
 inexact e =
     record {
+      method = NelderMead;
       n = 3;
       axes = axis_at 0xc020_0000_0000_0000 0x4020_0000_0000_0000 0 0x3ffb_3333_3333_3333
           ∷ axis_at 0xc020_0000_0000_0000 0x4020_0000_0000_0000 0x4000_0000_0000_0000 0x3fb9_9999_9999_999a
@@ -39,7 +41,7 @@ inexact e =
 
 -- two axes and size with the E of these bits
 abbrev pub sized : Axis → Axis → ℕ → Opening
-sized x y e = record { n = 2; axes = two_axes x y; rule = Some (Size (bits e)); coefficients = usual; budget = 100 }
+sized x y e = record { method = NelderMead; n = 2; axes = two_axes x y; rule = Some (Size (bits e)); coefficients = usual; budget = 100 }
 
 -- started at (2, 1) with the steps 1 and 0.75
 abbrev pub uneven : ℕ → Opening

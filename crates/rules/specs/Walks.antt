@@ -26,11 +26,11 @@ coefficients_at alpha chi beta sigma = record { alpha = bits alpha; chi = bits c
 
 -- the verdict on an opening
 abbrev pub judged : Opening → Verdict
-judged o = open_verdict NelderMead o.n o.axes o.rule o.coefficients o.budget
+judged o = open_verdict o.method o.n o.axes o.rule o.coefficients o.budget
 
 -- the search of an opening that is not refused
 abbrev pub begun : Opening → Search
-begun o = fresh NelderMead o.n o.axes o.rule o.coefficients o.budget
+begun o = fresh o.method o.n o.axes o.rule o.coefficients o.budget
 
 -- the coordinates that a search asks for, by their bits; none where it has ended
 abbrev pub asked_bits : Search → List ℕ
@@ -54,6 +54,7 @@ odd_coefficients = coefficients_at 0x3fe6_6666_6666_6666 0x3ffe_6666_6666_6666 0
 abbrev pub odd : Opening
 odd =
     record {
+      method = NelderMead;
       n = 2;
       axes = two_axes (axis_at 0xc020_0000_0000_0000 0x4020_0000_0000_0000 0x3fb9_9999_9999_999a 0x3fe6_6666_6666_6666)
           (axis_at 0xc010_0000_0000_0000 0x4010_0000_0000_0000 0xbfd3_3333_3333_3333 0x3ff1_9999_9999_999a);
@@ -107,6 +108,7 @@ wide_coefficients = coefficients_at 0x3fec_cccc_cccc_cccd 0x3ff4_cccc_cccc_cccd 
 abbrev pub wide : Opening
 wide =
     record {
+      method = NelderMead;
       n = 3;
       axes = axis_at 0xc020_0000_0000_0000 0x4020_0000_0000_0000 0x3fb9_9999_9999_999a 0x3fe6_6666_6666_6666
           ∷ axis_at 0xc010_0000_0000_0000 0x4010_0000_0000_0000 0xbfd3_3333_3333_3333 0x3ff1_9999_9999_999a
@@ -154,6 +156,7 @@ wide_trials =
 abbrev pub zeros : Opening
 zeros =
     record {
+      method = NelderMead;
       n = 2;
       axes = two_axes (axis_at 0xc020_0000_0000_0000 0x4020_0000_0000_0000 0x3fb9_9999_9999_999a 0x3fe6_6666_6666_6666)
           (axis_at 0 0x3ff0_0000_0000_0000 0x8000_0000_0000_0000 0x3fe0_0000_0000_0000);
@@ -185,6 +188,7 @@ zeros_trials =
 abbrev pub rounds : Opening
 rounds =
     record {
+      method = NelderMead;
       n = 2;
       axes = two_axes (axis_at 0xbff0_0000_0000_0000 0x4004_0000_0000_0000 0x3ffb_3333_3333_3333 0x3fe9_9999_9999_999a)
           (axis_at 0xc008_0000_0000_0000 0x3ff0_0000_0000_0000 0x3fe3_3333_3333_3333 0x3fe6_6666_6666_6666);

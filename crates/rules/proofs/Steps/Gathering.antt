@@ -10,7 +10,7 @@ use Rattle.std.proofs.lemmas.Bool.{cond_both}
 use Rattle.std.proofs.lemmas.List.{nil_from_length}
 use Rattle.rules.specs.Simplex.{pack, insert, Ordered}
 use Rattle.rules.specs.View.{is_ended, gathered_in, is_probe}
-use Rattle.rules.specs.Count.{told_in, counted}
+use Rattle.rules.specs.Count.{same, told_in, counted}
 use Rattle.rules.specs.Decide.{is_last, decided}
 use Rattle.rules.specs.Accept.{joined, best_after}
 use Rattle.rules.specs.Tally.{count_of}
@@ -19,7 +19,7 @@ use Rattle.rules.specs.declared.Search.{Search}
 use Rattle.rules.specs.declared.Phase.{Phase}
 use Rattle.rules.specs.declared.Phase.TheVariants.{Building, Shrinking}
 use Rattle.rules.specs.declared.Piece.{Piece}
-use Rattle.rules.specs.declared.Piece.TheVariants.{Build, Shrink}
+use Rattle.rules.specs.declared.Piece.TheVariants.{Build, Shrink, Pattern}
 use Rattle.rules.specs.declared.Keeping.TheVariants.{Joined}
 use Rattle.rules.specs.declared.Decision.TheVariants.{Go, Stand}
 use Rattle.rules.proofs.Laws.Order.{length_insert, ordered_insert}
@@ -50,8 +50,8 @@ module _ (rs : List Vertex) (v : Vertex) (s : Search) (inv : Inv rs s) (after : 
 
     -- the last trial is told
     stands : (p : Piece) → gathered_in s.phase ≡ s.setup.n → (told_in s.phase s.counts).unfinished ≡ readings_in s.setup.n p → 1 ≤ (counted p (told_in s.phase s.counts)).builds
-        → (count_of Build (p ∷ []) ≡ 0 → count_of Shrink (p ∷ []) ≡ 0 → ⊥) → Goes rs v s (Stand p)
-    stands p all unfinished stood neither =
+        → (count_of Build (p ∷ []) ≡ 0 → count_of Shrink (p ∷ []) ≡ 0 → ⊥) → same Pattern p ≡ false → Goes rs v s (Stand p)
+    stands p all unfinished stood neither other =
         let ending : Ending rs v s p (insert v inv.gs) =
         record {
           many = length_insert v inv.gs ∙ omega (arith, many);
@@ -61,13 +61,14 @@ module _ (rs : List Vertex) (v : Vertex) (s : Search) (inv : Inv rs s) (after : 
           unfinished = unfinished;
           stood = stood;
           falls = λ a b. absurd (neither a b);
+          of_simplex = other;
         } in
         stand_step rs v s inv after live p (rw joined_are ending)
 
     -- another trial follows
     joins : (next : Phase) → At next s.setup inv.vs (insert v inv.gs) (s.readings + 1) (told_in s.phase s.counts) (best_after s.readings v s.best) → NoRound next
         → Goes rs v s (Go Joined next)
-    joins next here none = go_step rs v s inv after live Joined next (insert v inv.gs) gathers_on here (λ e. none)
+    joins next here none = go_step rs v s inv after live Joined next (insert v inv.gs) refl gathers_on here (λ e. none)
 
   -- ---- a build
 
@@ -104,7 +105,7 @@ module _ (rs : List Vertex) (v : Vertex) (s : Search) (inv : Inv rs s) (after : 
     unfolding decided count_of
     build_step =
         cond_both (is_last i s) _ _ (Goes rs v s)
-        (λ e. stands gathered_built h.sorted leads_built Build (rw now (grind (arith, nat_tests))) (rw open_built (grind (arith, nat_tests))) (omega arith) (λ a b. omega arith))
+        (λ e. stands gathered_built h.sorted leads_built Build (rw now (grind (arith, nat_tests))) (rw open_built (grind (arith, nat_tests))) (omega arith) (λ a b. omega arith) refl)
         (λ e. joins gathered_built h.sorted leads_built (Building (i + 1)) (build_next (grind (arith, nat_tests, h.high))) tt)
 
   -- ---- a shrink
@@ -141,5 +142,5 @@ module _ (rs : List Vertex) (v : Vertex) (s : Search) (inv : Inv rs s) (after : 
     unfolding decided count_of
     shrink_step =
         cond_both (is_last j s) _ _ (Goes rs v s)
-        (λ e. stands gathered_shrunk h.sorted leads_shrunk Shrink (rw now (grind (arith, nat_tests))) (rw open_shrunk (grind (arith, nat_tests))) h.stood (λ a b. omega arith))
+        (λ e. stands gathered_shrunk h.sorted leads_shrunk Shrink (rw now (grind (arith, nat_tests))) (rw open_shrunk (grind (arith, nat_tests))) h.stood (λ a b. omega arith) refl)
         (λ e. joins gathered_shrunk h.sorted leads_shrunk (Shrinking (j + 1)) (shrink_next (grind (arith, nat_tests, h.high))) tt)

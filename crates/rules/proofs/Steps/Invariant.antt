@@ -1,4 +1,4 @@
--- The invariant of every search that an opening and calls have made: what it carries, by its phase. Assumes nothing.
+-- The invariant of every Nelder-Mead search that an opening and calls have made: what it carries, by its phase. Assumes nothing.
 use mathlib.Core.Path.{◌≡◌}
 use mathlib.Core.List.{List, [], ◌∷◌, map, Memᴰ}
 use Prim.Native.Nat.{ℕ, ◌+◌, ◌-◌, ◌*◌, ◌≤◌, ◌<◌}
@@ -8,13 +8,14 @@ use Rattle.rules.specs.Numbers.{max_cost}
 use Rattle.rules.specs.Simplex.{first_of, blank, pack, cost_of, Ordered}
 use Rattle.rules.specs.History.{EarliestLeast}
 use Rattle.rules.specs.Tally.{readings_by}
+use Rattle.rules.specs.declared.Method.TheVariants.{NelderMead}
 use Rattle.rules.specs.declared.Vertex.{Vertex}
 use Rattle.rules.specs.declared.Simplex.{Simplex}
 use Rattle.rules.specs.declared.Counts.{Counts}
 use Rattle.rules.specs.declared.Setup.{Setup}
 use Rattle.rules.specs.declared.Search.{Search}
 use Rattle.rules.specs.declared.Phase.{Phase}
-use Rattle.rules.specs.declared.Phase.TheVariants.{Building, Reflecting, Expanding, Contracting, Shrinking, Probing, Ended}
+use Rattle.rules.specs.declared.Phase.TheVariants.{Building, Reflecting, Expanding, Contracting, Shrinking, Basing, Mirroring, Checking, Probing, Ended}
 use Rattle.rules.specs.declared.Cause.TheVariants.{Settled, Budget}
 use Rattle.rules.specs.declared.Side.{Side}
 use Rattle.rules.specs.declared.Side.TheVariants.{Outside, Inside}
@@ -117,16 +118,27 @@ At Reflecting t vs gs readings c best = Idle 0 readings c × Leads vs best
 At Expanding t vs gs readings c best = Idle 1 readings c × AtExpand vs gs best
 At (Contracting side) t vs gs readings c best = Idle 1 readings c × AtContract side t.n vs gs best
 At (Shrinking j) t vs gs readings c best = AtShrink j t.n gs readings c best
+-- those of the other method never come
+At Basing t vs gs readings c best = ⊥
+At (Mirroring i) t vs gs readings c best = ⊥
+At (Checking i) t vs gs readings c best = ⊥
 At (Probing p) t vs gs readings c best = Idle 0 readings c × Leads vs best × (p < 2 * t.n)
 At (Ended Settled) t vs gs readings c best = Unit {0}
 At (Ended Budget) t vs gs readings c best = readings ≡ t.budget
 
+-- nothing counts in multidirectional iterations
+pub record Undirected (c : Counts) : Type 0 where
+  pub patterns : c.patterns ≡ 0
+  pub directed : c.directed ≡ 0
+
 -- rs: the readings of s
 pub record Inv (rs : List Vertex) (s : Search) : Type 0 where
+  pub method : s.method ≡ NelderMead
   pub vs : List Vertex
   pub gs : List Vertex
   pub noted : Noted rs s.setup s.readings s.best
   pub stands : Stands rs vs s.setup s.counts.builds s.standing
   pub gathers : Gathers rs gs s.gathered
   pub equation : Equation s.setup.n s.readings s.counts
+  pub undirected : Undirected s.counts
   pub phase : At s.phase s.setup vs gs s.readings s.counts s.best

@@ -95,7 +95,7 @@ module _ (rs : List Vertex) (v : Vertex) (s : Search) (inv : Inv rs s) (after : 
     -- r is gathered, and the iteration waits for another trial
     waits : (next : Phase) → At next s.setup inv.vs (v ∷ []) (s.readings + 1) (told_in s.phase s.counts) (best_after s.readings v s.best) → NoRound next → Goes rs v s (Go Joined next)
     waits next here none =
-        go_step rs v s inv after live Joined next (v ∷ []) (record { are = ap pack alone; known = known_one (rs ▹ v) v (known_new rs v) }) here (λ e. none)
+        go_step rs v s inv after live Joined next (v ∷ []) refl (record { are = ap pack alone; known = known_one (rs ▹ v) v (known_new rs v) }) here (λ e. none)
 
     -- the first row
     goes_expanding : v.cost < f1 s → Goes rs v s (Go Joined Expanding)
@@ -110,7 +110,7 @@ module _ (rs : List Vertex) (v : Vertex) (s : Search) (inv : Inv rs s) (after : 
     takes_reflected low =
         let l : v.cost < (get_or inv.vs (s.setup.n - 1) blank).cost = rw (carries (s.setup.n - 1)) at low in
         takes rs v s inv after live idle.stood Reflection Latest s.best (known_new rs v) leads (λ us. leads_on us v s.best s.readings idle.some)
-        (omega (arith, in_place (s.setup.n - 1) idle.stood (omega arith))) (rw now (omega (arith, idle.unfinished))) refl refl
+        (omega (arith, in_place (s.setup.n - 1) idle.stood (omega arith))) (rw now (omega (arith, idle.unfinished))) refl refl refl
 
     -- the third row and the fourth
     goes_contracting : (side : Side) → f1 s ≤ v.cost → RowBound side v.cost (get_or inv.vs s.setup.n blank).cost → Goes rs v s (Go Joined (Contracting side))
@@ -146,7 +146,7 @@ module _ (rs : List Vertex) (v : Vertex) (s : Search) (inv : Inv rs s) (after : 
         let x = get_or inv.vs 0 blank in
         let first : u.cost < x.cost = omega (arith, h.lower) in
         takes rs v s inv after live idle.stood Expansion who x mem (leads_self inv.vs (omega (arith, inv.stands.all idle.stood))) (λ us l. rw best (first_lower u x us l first))
-        (omega (arith, in_place 0 idle.stood (omega arith))) (rw now (omega (arith, idle.unfinished))) refl refl
+        (omega (arith, in_place 0 idle.stood (omega arith))) (rw now (omega (arith, idle.unfinished))) refl refl refl
 
     -- r, as it was gathered, is the best
     reflected : place s.gathered 0 ≡ s.best
@@ -174,7 +174,7 @@ module _ (rs : List Vertex) (v : Vertex) (s : Search) (inv : Inv rs s) (after : 
     takes_contracted : v.cost < (get_or inv.vs s.setup.n blank).cost → Goes rs v s (Take Contraction Latest)
     unfolding count_of
     takes_contracted low =
-        takes rs v s inv after live idle.stood Contraction Latest s.best (known_new rs v) h.leads (λ us. leads_on us v s.best s.readings idle.some) low open_contracted refl refl
+        takes rs v s inv after live idle.stood Contraction Latest s.best (known_new rs v) h.leads (λ us. leads_on us v s.best s.readings idle.some) low open_contracted refl refl refl
 
     -- x1, which a shrink keeps, is the best
     kept_best : place s.standing 0 ≡ s.best
@@ -186,7 +186,7 @@ module _ (rs : List Vertex) (v : Vertex) (s : Search) (inv : Inv rs s) (after : 
     goes_shrinking high =
         let known = known_one (rs ▹ v) s.best (best_known idle.some) in
         let e = best_stays s.readings v s.best idle.some high in
-        go_step rs v s inv after live First (Shrinking 1) (s.best ∷ []) (record { are = ap (λ (x : Vertex). pack (x ∷ [])) kept_best; known = known })
+        go_step rs v s inv after live First (Shrinking 1) (s.best ∷ []) refl (record { are = ap (λ (x : Vertex). pack (x ∷ [])) kept_best; known = known })
         (record { low = omega arith; high = after.sane.at_least; many = refl; sorted = (tt, tt); leads = rw e; unfinished = open_contracted; stood = idle.stood; some = omega arith }) (λ q. tt)
 
   -- an outside point that is not taken is higher than r, an inside one not lower than the worst

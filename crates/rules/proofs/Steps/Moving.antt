@@ -10,9 +10,9 @@ use lib.ListN.{get_or, take}
 use lib.Seq.{length-take-le}
 use Rattle.rules.specs.Simplex.{blank, unpack, insert, cost_of}
 use Rattle.rules.specs.View.{is_ended, is_probe}
-use Rattle.rules.specs.Count.{told_in, counted}
+use Rattle.rules.specs.Count.{same, told_in, counted}
 use Rattle.rules.specs.Stop.{total}
-use Rattle.rules.specs.Accept.{entrant, gathered_with, best_after}
+use Rattle.rules.specs.Accept.{entrant, standing_with, gathered_with, best_after}
 use Rattle.rules.specs.Tally.{count_of}
 use Rattle.rules.specs.declared.Vertex.{Vertex}
 use Rattle.rules.specs.declared.Simplex.{Simplex}
@@ -20,6 +20,7 @@ use Rattle.rules.specs.declared.Setup.{Setup}
 use Rattle.rules.specs.declared.Search.{Search}
 use Rattle.rules.specs.declared.Phase.{Phase}
 use Rattle.rules.specs.declared.Piece.{Piece}
+use Rattle.rules.specs.declared.Piece.TheVariants.{Pattern}
 use Rattle.rules.specs.declared.Newcomer.{Newcomer}
 use Rattle.rules.specs.declared.Keeping.{Keeping}
 use Rattle.rules.specs.declared.Decision.TheVariants.{Go, Take}
@@ -28,7 +29,7 @@ use Rattle.rules.proofs.Laws.Order.{length_insert, ordered_insert, mem_insert, t
 use Rattle.rules.proofs.Laws.Places.{unpack_take}
 use Rattle.rules.proofs.Steps.Invariant.{Known, Leads, Stands, Gathers, At, Inv}
 use Rattle.rules.proofs.Steps.Noting.{◌▹◌, NotedWith, known_more}
-use Rattle.rules.proofs.Steps.Counting.{readings_in, equation_told, open_told}
+use Rattle.rules.proofs.Steps.Counting.{readings_in, equation_told, open_told, undirected_told}
 use Rattle.rules.proofs.Steps.Stepping.{NoRound, Parts, Ending, Goes, others_in, standing_costs, standing_list, whole, step, take_step}
 
 -- ---- laws that both ways share
@@ -63,9 +64,9 @@ module _ (rs : List Vertex) (v : Vertex) (s : Search) (inv : Inv rs s) (after : 
     pub takes : (p : Piece) (who : Newcomer) (x : Vertex) → let u = entrant (Take p who) v s in
         Memᴰ u (rs ▹ v) → Leads inv.vs x → ((us : List Vertex) → Leads us x → Leads (insert u us) (best_after s.readings v s.best))
         → u.cost < (get_or inv.vs s.setup.n blank).cost → (told_in s.phase s.counts).unfinished ≡ readings_in s.setup.n p
-        → others_in (p ∷ []) ≡ 1 → (counted p (told_in s.phase s.counts)).builds ≡ s.counts.builds
+        → others_in (p ∷ []) ≡ 1 → same Pattern p ≡ false → (counted p (told_in s.phase s.counts)).builds ≡ s.counts.builds
         → Goes rs v s (Take p who)
-    takes p who x mem leads enters low unfinished one same =
+    takes p who x mem leads enters low unfinished one other same =
         let n = s.setup.n in
         let u = entrant (Take p who) v s in
         let us = take n inv.vs in
@@ -78,6 +79,7 @@ module _ (rs : List Vertex) (v : Vertex) (s : Search) (inv : Inv rs s) (after : 
           unfinished = unfinished;
           stood = rw same stood;
           falls = λ a b. rw one (sum_falls u low);
+          of_simplex = other;
         } in
         take_step rs v s inv after live p who (rw stay ending)
 
@@ -95,6 +97,7 @@ module _ (rs : List Vertex) (v : Vertex) (s : Search) (inv : Inv rs s) (after : 
         stands = stands_more rs inv.vs v s.setup s.counts.builds s.standing inv.stands;
         gathers = gathers;
         equation = equation_told rs s inv live;
+        undirected = undirected_told rs s inv live;
         phase = here;
         unfinished = open_told rs s inv live;
         falls = λ a b. rw (standing_list rs s inv) (omega arith);
@@ -102,8 +105,9 @@ module _ (rs : List Vertex) (v : Vertex) (s : Search) (inv : Inv rs s) (after : 
         no_round = none;
       }
 
-  -- the phase that the decision names comes next
-  pub go_step : (keeping : Keeping) (next : Phase) (gs : List Vertex) → Gathers (rs ▹ v) gs (gathered_with keeping v s)
+  -- the phase that the decision names comes next, where the standing places are left alone
+  pub go_step : (keeping : Keeping) (next : Phase) (gs : List Vertex) → standing_with keeping v s ≡ s.standing → Gathers (rs ▹ v) gs (gathered_with keeping v s)
       → At next s.setup inv.vs gs (s.readings + 1) (told_in s.phase s.counts) (best_after s.readings v s.best) → (is_probe s.phase ≡ 0 → NoRound next)
       → Goes rs v s (Go keeping next)
-  go_step keeping next gs gathers here none = step rs v s (Go keeping next) next refl after (goes next gs (gathered_with keeping v s) gathers here none)
+  go_step keeping next gs alone gathers here none =
+      step rs v s (Go keeping next) next inv.method refl after (rw alone (goes next gs (gathered_with keeping v s) gathers here none))

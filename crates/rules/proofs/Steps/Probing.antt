@@ -1,5 +1,5 @@
 -- A reading of a probe round. Assumes nothing.
-use mathlib.Core.Path.{◌≡◌, refl}
+use mathlib.Core.Path.{◌≡◌, refl, sym, subst}
 use mathlib.Core.Bool.{false}
 use mathlib.Core.List.{List, [], ◌∷◌}
 use Prim.Native.Nat.{ℕ, ◌+◌, ◌*◌, ◌≤◌, ◌<◌}
@@ -9,8 +9,9 @@ use Rattle.std.proofs.lemmas.Bool.{cond_both}
 use Rattle.rules.specs.Simplex.{pack, Ordered}
 use Rattle.rules.specs.View.{is_ended, is_probe}
 use Rattle.rules.specs.Count.{told_in}
-use Rattle.rules.specs.Decide.{is_full, ends_round, decided}
+use Rattle.rules.specs.Decide.{is_full, ends_round, restart, decided}
 use Rattle.rules.specs.Accept.{best_after}
+use Rattle.rules.specs.declared.Method.{Method}
 use Rattle.rules.specs.declared.Vertex.{Vertex}
 use Rattle.rules.specs.declared.Search.{Search}
 use Rattle.rules.specs.declared.Phase.{Phase}
@@ -49,11 +50,11 @@ module _ (rs : List Vertex) (v : Vertex) (s : Search) (inv : Inv rs s) (after : 
         none = λ q. absurd (omega arith);
         some = λ m. omega arith;
       } in
-      step rs v s Restart (Building 1) refl after (goes rs v s inv after live (Building 1) (v ∷ []) (pack (v ∷ [])) (record { are = refl; known = known_one (rs ▹ v) v (known_new rs v) }) built (is_one (Building 1)))
+      step rs v s Restart (Building 1) inv.method refl after (goes rs v s inv after live (Building 1) (v ∷ []) (pack (v ∷ [])) (record { are = refl; known = known_one (rs ▹ v) v (known_new rs v) }) built (is_one (Building 1)))
 
   -- the round goes on, or has settled the search
   misses : (next : Phase) → At next s.setup inv.vs inv.gs (s.readings + 1) (told_in s.phase s.counts) (best_after s.readings v s.best) → Goes rs v s (Go Nothing next)
-  misses next here = go_step rs v s inv after live Nothing next inv.gs (gathers_more rs v s inv after live) here (is_one next)
+  misses next here = go_step rs v s inv after live Nothing next inv.gs refl (gathers_more rs v s inv after live) here (is_one next)
 
   -- a probe that is not lower leads to the next one, or settles the search
   pub probe_step_lem : Goes rs v s (decided (Probing p) s v.cost)
@@ -62,7 +63,7 @@ module _ (rs : List Vertex) (v : Vertex) (s : Search) (inv : Inv rs s) (after : 
       let still : Idle 0 (s.readings + 1) (told_in s.phase s.counts) = record { stood = idle.stood; some = omega arith; unfinished = still_closed } in
       let first : s.best.cost ≤ v.cost → Leads inv.vs (best_after s.readings v s.best) = λ l. rw (best_stays s.readings v s.best idle.some l) leads in
       cond_both (ends_round v.cost s) _ _ (Goes rs v s)
-      (λ e. restarts (grind (arith, nat_tests)))
+      (λ e. subst (λ (m : Method). Goes rs v s (restart m)) (sym inv.method) (restarts (grind (arith, nat_tests))))
       (λ e.
       cond_both (is_full p s) _ _ (Goes rs v s)
       (λ f. misses (Ended Settled) tt)
