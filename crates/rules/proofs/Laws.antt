@@ -10,4 +10,5 @@ pub mod Stopped
 pub mod Openings
 pub mod Refusing
 pub mod Histories
+pub mod Grouping
 pub mod Finishing

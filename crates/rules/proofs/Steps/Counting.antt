@@ -37,7 +37,7 @@ count_by f probes unfinished directed Shrink = refl
 count_by f probes unfinished directed Pattern = refl
 
 -- a reading that is told leaves the pieces as they were
-told_count : (p : Phase) (c : Counts) (q : Piece) → count_in q (told_in p c) ≡ count_in q c
+pub told_count : (p : Phase) (c : Counts) (q : Piece) → count_in q (told_in p c) ≡ count_in q c
 told_count p c q = count_by (λ r. count_in r c) _ _ _ q
 
 -- with the piece that it finishes, if any, it counts that piece, and itself where it is a probe
