@@ -1,5 +1,6 @@
 -- Laws on a base with its companions: who stands where, their stops, and the first unread one. Assumes nothing.
-use mathlib.Core.Path.{◌≡◌, subst⁻¹}
+use mathlib.Core.Path.{◌≡◌, refl, subst⁻¹}
+use mathlib.Core.Bool.{Bool, true}
 use mathlib.Core.List.Memᴰ
 use mathlib.Core.List.{List, [], ◌∷◌, Memᴰ}
 use mathlib.Core.Logic.{⊎_elim}
@@ -7,12 +8,16 @@ use Prim.Native.Nat.{ℕ, zero, suc, ◌+◌, ◌-◌, ◌≤◌, ◌<◌}
 use native.Mathlib.Omega.{arith}
 use native.Mathlib.Nat.{eq-or-lt_of_le, le_of_suc-le-suc, not-suc-le-zero}
 use lib.ListN.{length, get_or, replicate}
+use lib.Ieee.{nan}
 use Rattle.std.proofs.lemmas.Bool.Decides.{nat_tests}
 use Rattle.std.proofs.lemmas.Bool.{cond_both}
 use Rattle.std.proofs.lemmas.List.{places}
-use Rattle.rules.specs.Simplex.{up_to, blank}
+use Rattle.rules.specs.Simplex.{up_to, blank, place}
+use Rattle.rules.specs.Trial.{entry}
+use Rattle.rules.specs.Calls.{every}
 use Rattle.rules.specs.Companions.{group, stops_by, unread_from, next_unread}
 use Rattle.rules.specs.declared.Vertex.{Vertex}
+use Rattle.rules.specs.declared.Simplex.{Simplex}
 use Rattle.rules.proofs.Laws.Lists.{length_up_to, get_or_up_to}
 use Rattle.rules.proofs.Laws.Places.{Whole}
 
@@ -45,6 +50,17 @@ whole_group v f n h g w m =
     (λ e. rw e h)
     (λ t. mem_up_to (λ (x : Vertex). length x.point ≡ 8) (λ (k : ℕ). f (suc k)) n (λ i l. g (suc i) (omega arith) l) w t)
     (Memᴰ.cases_cons m)
+
+-- coordinate a of the point at place i, from 0, in the flat run
+pub entry_at : (s : Simplex) (i a : ℕ) → a < 8 → entry s.points a i ≡ get_or (place s i).point a nan
+entry_at s i a l = grind (arith, places)
+
+-- ---- what holds of each of the first k
+
+pub every_one : (f : ℕ → Bool) (k : ℕ) → ((i : ℕ) → i < k → f i ≡ true) → every f k ≡ true
+unfolding every
+every_one f zero h = refl
+every_one f (suc k) h = rw (every_one f k (λ i l. h i (omega arith)), h k (omega arith)) refl
 
 -- ---- their stops
 

@@ -16,6 +16,7 @@ use Rattle.rules.specs.Numbers.{max_budget}
 use Rattle.rules.specs.Trial.{no_axis, axis, brought, target, stops_to, stops_in, trial}
 use Rattle.rules.specs.Refusals.{Verdict, check, answered}
 use Rattle.rules.specs.Opening.{in_threshold, axis_checks, axes_checks, rule_of, keep, fresh, opened_by, open_verdict, opening}
+use Rattle.rules.specs.Stop.{suits}
 use Rattle.rules.specs.Calls.{sound_rule}
 use Rattle.rules.specs.Claims.{Within, StopsOf}
 use Rattle.rules.specs.declared.Method.{Method}
@@ -115,6 +116,14 @@ module _ (m : Method) (n : ℕ) (axes : List Axis) (rule : Option Rule) (c : Coe
     pub opened_axis : (a : ℕ) → a < n → axis (fresh m n axes rule c budget).setup a ≡ get_or axes a no_axis
     unfolding fresh
     opened_axis a l = kept_axis n axes a l (in_list axes a (below a l))
+
+    -- where the checks of an opening accept, the rule is one of the method's
+    pub opened_suits : suits m (rule_of rule) ≡ true
+    unfolding open_verdict
+    opened_suits =
+        let counts = simp (check_iff, and-eq-true_iff) at h in
+        let rest = simp (check_iff, and-eq-true_iff) at (axes_pass _ 0 axes _ counts.1).1 in
+        rest.1.1.0
 
     -- where the checks of an opening accept, its setup is sane
     pub opened_sane : Sane (fresh m n axes rule c budget).setup

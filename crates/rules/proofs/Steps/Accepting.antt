@@ -1,7 +1,8 @@
--- An accepted reading keeps the invariant, in every phase. Assumes nothing.
+-- An accepted reading keeps the invariant of its method, in every phase. Assumes nothing.
 use mathlib.Core.Path.{◌≡◌, refl}
 use mathlib.Core.Bool.{false, true≢false}
 use mathlib.Core.List.{List, ◌++◌}
+use mathlib.Core.Logic.{⊎_elim}
 use Prim.Native.Nat.{ℕ, ◌≤◌}
 use native.Mathlib.Omega.{arith}
 use Rattle.rules.specs.Numbers.{max_cost}
@@ -10,20 +11,22 @@ use Rattle.rules.specs.Trial.{brought, target, trial}
 use Rattle.rules.specs.Decide.{decided}
 use Rattle.rules.specs.Accept.{reading_of, accept}
 use Rattle.rules.specs.History.{Event, told, step}
-use Rattle.rules.specs.Tally.{ended_by, finishes, probe_in, probe_by}
+use Rattle.rules.specs.Tally.{ended_by, finishes, probe_in, probe_by, direct_in, direct_by}
 use Rattle.rules.specs.declared.Vertex.{Vertex}
 use Rattle.rules.specs.declared.Search.{Search}
 use Rattle.rules.specs.declared.Phase.{Phase}
-use Rattle.rules.specs.declared.Phase.TheVariants.{Building, Reflecting, Expanding, Contracting, Shrinking, Probing, Ended}
+use Rattle.rules.specs.declared.Phase.TheVariants.{Building, Reflecting, Expanding, Contracting, Shrinking, Basing, Mirroring, Checking, Probing, Ended}
 use Rattle.rules.proofs.Laws.Lists.{length_point, point_again}
-use Rattle.rules.proofs.Laws.Finishing.{ended_decided, probe_viewed}
+use Rattle.rules.proofs.Laws.Finishing.{ended_decided, probe_viewed, direct_viewed}
 use Rattle.rules.proofs.Laws.Histories.{read_by, Joins}
-use Rattle.rules.proofs.Steps.Invariant.{ReadingShape, At, Inv}
+use Rattle.rules.proofs.Steps.Invariant.{ReadingShape, Noted, At, Inv}
+use Rattle.rules.proofs.Steps.Grouped.{Any}
 use Rattle.rules.proofs.Steps.Noting.{◌▹◌, NotedWith, note}
 use Rattle.rules.proofs.Steps.Stepping.{BelowBudget, TakesReading, Goes}
 use Rattle.rules.proofs.Steps.Gathering.{build_step, shrink_step}
 use Rattle.rules.proofs.Steps.Iterating.{reflect_step, expand_step, contract_step}
 use Rattle.rules.proofs.Steps.Probing.{probe_step_lem}
+use Rattle.rules.proofs.Steps.Turning.{turn_step}
 
 -- ---- every phase
 
@@ -37,6 +40,9 @@ module _ (rs : List Vertex) (v : Vertex) (s : Search) (inv : Inv rs s) (after : 
   advance (Shrinking j) now h = shrink_step rs v s inv after live j now h
   advance (Probing p) now h = probe_step_lem rs v s inv after live p now h.0 h.1 h.2
   advance (Ended cause) now h = absurd (true≢false (rw now at live))
+  advance Basing now h = absurd h
+  advance (Mirroring i) now h = absurd h
+  advance (Checking i) now h = absurd h
 
 -- ---- the accepted reading
 
@@ -47,15 +53,21 @@ trial_shape s c l h =
     let f = λ (a : ℕ). brought s.setup a (target s s.phase a) in
     record { shape = point_again s.setup.n f; eight = length_point s.setup.n f l; low = h; numbered = omega arith }
 
-module _ (rs : List Vertex) (s : Search) (inv : Inv rs s) (below : BelowBudget s) where
+-- what both methods have noted
+pub noted_of : (rs : List Vertex) (s : Search) → Any rs s → Noted rs s.setup s.readings s.best
+noted_of rs s any = ⊎_elim (λ i. i.noted) (λ i. i.noted) any
+
+module _ (rs : List Vertex) (s : Search) (any : Any rs s) (below : BelowBudget s) where
   -- an accepted cost takes its reading
-  accept_step : (c : ℕ) → is_ended s.phase ≡ false → c ≤ max_cost → TakesReading (rs ▹ reading_of s c) (ended_by s.phase s c) (probe_in s.phase) s (accept s c)
+  accept_step : (c : ℕ) → is_ended s.phase ≡ false → c ≤ max_cost → TakesReading (rs ▹ reading_of s c) (ended_by s.phase s c) (probe_in s.phase) (direct_in s.phase) s (accept s c)
   unfolding accept trial
   accept_step c live low =
       let v = reading_of s c in
-      let after : NotedWith v rs s = note rs s.setup s.readings s.best v inv.noted (trial_shape s c inv.noted.sane.at_most8 low) (below live) in
-      rw (ended_decided s.phase s c, probe_viewed s.phase) (advance rs v s inv after live s.phase refl inv.phase)
+      let noted = noted_of rs s any in
+      let after : NotedWith v rs s = note rs s.setup s.readings s.best v noted (trial_shape s c noted.sane.at_most8 low) (below live) in
+      rw (ended_decided s.phase s c, probe_viewed s.phase, direct_viewed s.phase)
+      (⊎_elim (λ inv. advance rs v s inv after live s.phase refl inv.phase) (λ inv. turn_step rs v s inv after live s.phase refl inv.phase) any)
 
   -- an event of the history takes its readings
-  pub event_step : (e : Event) → Joins s e → TakesReading (rs ++ read_by s e) (finishes s e) (probe_by s e) s (step s e)
+  pub event_step : (e : Event) → Joins s e → TakesReading (rs ++ read_by s e) (finishes s e) (probe_by s e) (direct_by s e) s (step s e)
   event_step (told c) j = accept_step c j.0 j.1
