@@ -84,11 +84,9 @@ pub record FullRound (o : Search) (before : List Event) (round : List ℕ) : Typ
 pub record OfNelderMead (o : Search) (h : List Event) (s : Search) : Type 0 where
   -- order: "Vertices are ordered by cost, lowest first"
   pub sorted : Ordered (standing_of s)
-  -- vertices: the simplex is empty before the first build ends, n + 1 vertices afterwards, and each is the accepted reading of its number;
-  -- so is each vertex that an unfinished build or iteration has gathered, and whatever else stands in a place
+  -- vertices: the simplex is empty before the first build ends, n + 1 vertices afterwards; whatever stands in a place of either run is the
+  -- accepted reading of its number
   pub places : length (standing_of s) ≡ cond (eqb (made Build o h) 0) 0 (o.setup.n + 1)
-  pub vertices : (v : Vertex) → Memᴰ v (standing_of s) → IsRead o h v
-  pub gathered : (v : Vertex) → Memᴰ v (gathered_of s) → IsRead o h v
   pub all_read : AreRead o h s.standing × AreRead o h s.gathered
   -- first vertex: at the end of every build and iteration it is the earliest least of the readings till then, with its number
   pub first : (before : List Event) (e : Event) (since : List Event) → h ≡ before ++ e ∷ since → Ends o before e
@@ -131,6 +129,9 @@ pub record Claims (o : Search) (h : List Event) (s : Search) : Type 0 where
   -- "A tell is accepted .. exactly when", and "trial k is the point that the rules ask .., which ask then answers"
   pub accepts : (k c : ℕ) → ((telling s k c).verdict ≡ Ok tt) ↔ (joins o h k c ≡ true)
   pub asks : is_ended s.phase ≡ false → asking s ≡ Ok (record { number = length (costs_in h) + 1; trial = trial (run o h) })
+  -- vertices: each that stands is the accepted reading of its number, and so is each that an unfinished build or iteration has gathered
+  pub vertices : (v : Vertex) → Memᴰ v (standing_of s) → IsRead o h v
+  pub gathered : (v : Vertex) → Memᴰ v (gathered_of s) → IsRead o h v
   -- best: "the earliest least reading", with its number
   pub best : 0 < length (costs_in h) → (v : Vertex) × IsBest o h v × (showing s ≡ Ok v)
   -- "The equation's numbers are those that the search carries, each equal to its count by the rules over the history; readings

@@ -43,13 +43,17 @@ mem_up_to P f (suc k) h w m =
     (λ e. subst⁻¹ P (Memᴰ.eq_of_singleton e) (h k (omega arith)))
     (Memᴰ.append_cases (up_to f k) m)
 
--- where the base and each companion have points of eight numbers, all have
-pub whole_group : (v : Vertex) (f : ℕ → Vertex) (n : ℕ) → length v.point ≡ 8 → ((i : ℕ) → 1 ≤ i → i ≤ n → length (f i).point ≡ 8) → Whole (group v f n)
-whole_group v f n h g w m =
+-- what holds of the base and of each companion holds of all
+pub mem_group : (P : Vertex → Type 0) (v : Vertex) (f : ℕ → Vertex) (n : ℕ) → P v → ((i : ℕ) → 1 ≤ i → i ≤ n → P (f i)) → (w : Vertex) → Memᴰ w (group v f n) → P w
+mem_group P v f n h g w m =
     ⊎_elim
-    (λ e. rw e h)
-    (λ t. mem_up_to (λ (x : Vertex). length x.point ≡ 8) (λ (k : ℕ). f (suc k)) n (λ i l. g (suc i) (omega arith) l) w t)
+    (λ e. subst⁻¹ P e h)
+    (λ t. mem_up_to P (λ (k : ℕ). f (suc k)) n (λ i l. g (suc i) (omega arith) l) w t)
     (Memᴰ.cases_cons m)
+
+-- where they have points of eight numbers, all have
+pub whole_group : (v : Vertex) (f : ℕ → Vertex) (n : ℕ) → length v.point ≡ 8 → ((i : ℕ) → 1 ≤ i → i ≤ n → length (f i).point ≡ 8) → Whole (group v f n)
+whole_group v f n h g = mem_group (λ (x : Vertex). length x.point ≡ 8) v f n h g
 
 -- coordinate a of the point at place i, from 0, in the flat run
 pub entry_at : (s : Simplex) (i a : ℕ) → a < 8 → entry s.points a i ≡ get_or (place s i).point a nan

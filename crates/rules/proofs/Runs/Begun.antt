@@ -2,6 +2,7 @@
 use Rattle.std.specs.Prelude.{Option}
 use mathlib.Core.Path.{◌≡◌, refl, sym, ap, ◌∙◌, subst}
 use mathlib.Core.Bool.{true, cond}
+use mathlib.Core.List.Memᴰ
 use mathlib.Core.List.{List, [], Memᴰ}
 use mathlib.Core.Logic.{inl, inr, ⊎_elim}
 use Prim.Native.Nat.{ℕ, ◌+◌, ◌-◌, ◌<◌}
@@ -37,11 +38,12 @@ use Rattle.rules.proofs.Laws.Places.{place_cases}
 use Rattle.rules.proofs.Laws.Openings.{Sane}
 use Rattle.rules.proofs.Laws.Histories.{readings_of, Joined, costs_readings_of, get_or_readings_of, mem_readings_of}
 use Rattle.rules.proofs.Steps.Invariant.{Known, Best, Noted, Inv}
-use Rattle.rules.proofs.Steps.Grouped.{Any}
+use Rattle.rules.proofs.Steps.Grouped.{Multi, Any}
 use Rattle.rules.proofs.Steps.Noting.{best_mem}
 use Rattle.rules.proofs.Steps.Counting.{count_by}
 use Rattle.rules.proofs.Steps.Stepping.{BelowBudget, whole, standing_list, gathered_list}
 use Rattle.rules.proofs.Runs.Running.{Ran, ran, fresh_any, fresh_below}
+use Rattle.rules.proofs.Steps.Turning.{none_stands, none_gathered_yet}
 use Rattle.rules.proofs.Steps.Accepting.{noted_of}
 
 -- a search as an opening gives it: nothing told, nothing counted
@@ -144,19 +146,32 @@ module _ (o : Search) (begun : Begun o) where
           (λ e. ap length (run_inv.stands.none (run_counts Build ∙ grind (arith, nat_tests))))
           (λ e. run_inv.stands.all (grind (arith, nat_tests, run_counts Build)) ∙ ap (λ (t : Setup). t.n + 1) whole_run.kept))
 
-      -- each vertex that stands
-      pub run_vertices : (v : Vertex) → Memᴰ v (standing_of (run o h)) → IsRead o h v
-      run_vertices v m = is_read v (run_inv.stands.known v (rw run_standing at m))
-
-      -- and each that is gathered
-      pub run_gathered : (v : Vertex) → Memᴰ v (gathered_of (run o h)) → IsRead o h v
-      run_gathered v m =
-          let among = mem_take (gathered_in (run o h).phase) run_inv.gs (rw (gathered_list (readings_of o h) (run o h) run_inv) at m) in
-          is_read v (run_inv.gathers.known v among)
-
       -- every place of both runs
       pub run_read : AreRead o h (run o h).standing × AreRead o h (run o h).gathered
       run_read = (
         are_read run_inv.vs (run o h).standing run_inv.stands.are run_inv.stands.known,
         are_read run_inv.gs (run o h).gathered run_inv.gathers.are run_inv.gathers.known,
       )
+
+    -- ---- the multidirectional method
+
+    pub run_multi : o.method ≡ Multidirectional → Multi (readings_of o h) (run o h)
+    run_multi md = ⊎_elim (λ i. absurd (let other : NelderMead ≡ Multidirectional = sym i.method ∙ whole_run.method ∙ md in cc)) (λ i. i) run_any
+
+    -- ---- either method
+
+    -- each vertex that stands
+    pub run_vertices : (v : Vertex) → Memᴰ v (standing_of (run o h)) → IsRead o h v
+    run_vertices v m =
+        ⊎_elim
+        (λ i. is_read v (i.stands.known v (rw (standing_list (readings_of o h) (run o h) i) at m)))
+        (λ i. absurd (Memᴰ.not-nil (rw (none_stands (run o h) i.method) at m)))
+        run_any
+
+    -- and each that is gathered
+    pub run_gathered : (v : Vertex) → Memᴰ v (gathered_of (run o h)) → IsRead o h v
+    run_gathered v m =
+        ⊎_elim
+        (λ i. is_read v (i.gathers.known v (mem_take (gathered_in (run o h).phase) i.gs (rw (gathered_list (readings_of o h) (run o h) i) at m))))
+        (λ i. absurd (Memᴰ.not-nil (rw (none_gathered_yet (readings_of o h) (run o h) i) at m)))
+        run_any

@@ -24,6 +24,7 @@ use Rattle.rules.specs.declared.Asked.{Asked}
 use Rattle.rules.proofs.Laws.Openings.{check_iff, answered_ok}
 use Rattle.rules.proofs.Laws.Histories.{Joined, joined_snoc, readings_of, run_snoc}
 use Rattle.rules.proofs.Runs.Sound.{never_damaged}
+use Rattle.rules.proofs.Runs.Moments.{run_inside}
 use Rattle.rules.proofs.Runs.Begun.{Begun, whole_run, run_readings, run_best, best_shape}
 
 -- ---- answers by their verdict
@@ -40,7 +41,7 @@ told_refused (Err r) s c h = refl
 module _ (o : Search) (begun : Begun o) (h : List Event) (t : Joined o h) where
   -- refusal 12 is not given
   pub run_undamaged : undamaged (run o h) ≡ true
-  run_undamaged = let r = whole_run o begun h t in never_damaged (readings_of o h) (run o h) r.inv r.below
+  run_undamaged = let r = whole_run o begun h t in never_damaged (readings_of o h) (run o h) r.inv r.below (run_inside o begun h t)
 
   -- ---- tell
 

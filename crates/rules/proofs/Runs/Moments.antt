@@ -27,10 +27,11 @@ use Rattle.rules.specs.declared.Cause.TheVariants.{Settled, Budget}
 use Rattle.rules.specs.declared.Piece.{Piece}
 use Rattle.rules.specs.declared.Piece.TheVariants.{Build, Shrink}
 use Rattle.rules.proofs.Laws.Openings.{trial_within, trial_stops}
-use Rattle.rules.proofs.Laws.Histories.{readings_of, Joins, Joined, run_append, run_snoc, costs_in_append, made_append, joined_left, joined_right, joined_before, ended_last}
+use Rattle.rules.proofs.Laws.Histories.{readings_of, mem_readings_of, Joins, Joined, run_append, run_snoc, costs_in_append, made_append, joined_left, joined_right, joined_before, ended_last}
 use Rattle.rules.proofs.Steps.Invariant.{Leads}
 use Rattle.rules.proofs.Steps.Accepting.{event_step}
 use Rattle.rules.proofs.Runs.Running.{ran}
+use Rattle.rules.proofs.Runs.Companions.{Inside}
 use Rattle.rules.proofs.Runs.Begun.{Begun, whole_run, run_noted, run_readings, run_best}
 use Rattle.rules.proofs.Runs.Settling.{EndsFull, Rounds, rounds, settles}
 
@@ -151,6 +152,13 @@ module _ (o : Search) (begun : Begun o) where
 
   pub run_within_told : (h : List Event) → Joined o h → (k : ℕ) → Within o.setup (reading o h k).point
   run_within_told h t k = run_within (before_cost k h) (joined_before o h k t)
+
+  -- so every reading lies within the limits
+  pub run_inside : (h : List Event) → Joined o h → Inside (run o h).setup (readings_of o h)
+  run_inside h t v m =
+      let r = mem_readings_of o h v m in
+      let kept = (whole_run o begun h t).kept in
+      subst (λ (u : Setup). Within u v.point) (sym kept) (subst (λ (w : Vertex). Within o.setup w.point) (sym r.2) (run_within_told h t r.0))
 
   -- ---- the stops
 

@@ -13,12 +13,12 @@ use lib.Ieee.{Float, nan}
 use Rattle.std.proofs.lemmas.Bool.Decides.{nat_tests}
 use Rattle.std.proofs.lemmas.Bool.{cond_both, cases_Bool}
 use Rattle.rules.specs.Simplex.{up_to, blank, pack, place, unpack, cost_of, number_in}
-use Rattle.rules.specs.View.{view, is_ended, is_probe, is_directed, open_by}
+use Rattle.rules.specs.View.{view, is_ended, gathered_in, is_probe, is_directed, open_by}
 use Rattle.rules.specs.Trial.{made, build_step, axis, target, brought}
 use Rattle.rules.specs.Count.{same, count_in, told_in, counted, finished}
 use Rattle.rules.specs.Companions.{unread_at, built, reflection, halved, halfway, base, base_after, companion_after, stop_after, group, group_after, group_read, stops_by, next_unread}
 use Rattle.rules.specs.Decide.{f1, is_last, is_full, lower, checks_from, ends_round, restart, decided, completed, finished_by}
-use Rattle.rules.specs.Accept.{entrant, standing_after, gathered_after, stops_after, tested_phase, opens, is_met, is_spent, spent_phase, counts_after, best_after, acted}
+use Rattle.rules.specs.Accept.{entrant, gathered_of, standing_after, gathered_after, stops_after, tested_phase, opens, is_met, is_spent, spent_phase, counts_after, best_after, acted}
 use Rattle.rules.specs.Calls.{standing_of}
 use Rattle.rules.specs.Stop.{total}
 use Rattle.rules.specs.Tally.{count_of, is_open}
@@ -91,6 +91,24 @@ companion_eight rs t k b c stops h g =
     (λ u. ap (λ (x : Vertex). length x.point) u.are ∙ length_point t.n (λ a. brought t a (u.f a)) h.sane.at_most8)
     g
 
+-- no simplex stands in this method
+pub none_stands : (s : Search) → s.method ≡ Multidirectional → standing_of s ≡ []
+unfolding unpack up_to
+none_stands s e = rw e refl
+
+-- and no vertex is gathered
+gathers_nothing : (p : Phase) (t : Setup) (gs : List Vertex) (ns : List ℕ) (k : ℕ) (c : Counts) → AtMulti p t gs ns k c → gathered_in p ≡ 0
+gathers_nothing Basing t gs ns k c h = refl
+gathers_nothing (Mirroring i) t gs ns k c h = refl
+gathers_nothing (Checking i) t gs ns k c h = refl
+gathers_nothing (Probing p) t gs ns k c h = refl
+gathers_nothing (Ended cause) t gs ns k c h = refl
+gathers_nothing p t gs ns k c h = absurd h
+
+pub none_gathered_yet : (rs : List Vertex) (s : Search) → Multi rs s → gathered_of s ≡ []
+unfolding unpack up_to
+none_gathered_yet rs s inv = rw (gathers_nothing s.phase s.setup inv.gs s.standing.numbers s.readings s.counts inv.phase) refl
+
 module _ {rs : List Vertex} {t : Setup} {k : ℕ} {b : Vertex} {stops : List ℕ} {standing : Simplex} (noted : Noted rs t k b) (some : 1 ≤ k) (g : Grouped rs t b stops standing) where
   abbrev all : List Vertex
   all = group b g.f t.n
@@ -124,11 +142,6 @@ module _ (rs : List Vertex) (v : Vertex) (s : Search) (inv : Multi rs s) (after 
     pub alone : others_in (pieces_by d) ≡ 0
     pub no_round : is_probe s.phase ≡ 0 → NoRound next
 
-  -- no simplex stands
-  none_stands : (u : Search) → u.method ≡ s.method → standing_of u ≡ []
-  unfolding unpack up_to
-  none_stands u e = rw (e ∙ inv.method) refl
-
   -- they make the step; the budget is tested here and nowhere else
   turn : (d : Decision) (next : Phase) → (acted d v s).phase ≡ spent_phase (is_spent s) next → Leaves d next → Goes rs v s d
   unfolding total
@@ -136,7 +149,7 @@ module _ (rs : List Vertex) (v : Vertex) (s : Search) (inv : Multi rs s) (after 
       let c = counts_after d s in
       let u = acted d v s in
       let P : Phase → Type 0 = λ p. AtMulti p s.setup h.gs u.standing.numbers (s.readings + 1) c in
-      let none : standing_of u ≡ [] = none_stands u refl in
+      let none : standing_of u ≡ [] = none_stands u inv.method in
       record {
         inv =
             inr
