@@ -3,7 +3,7 @@ use Rattle.std.specs.Prelude.{Option, Result, Ok, Err}
 use mathlib.Core.Path.{◌≡◌, refl, sym, ap, ◌∙◌, subst}
 use mathlib.Core.Bool.{Bool, true, false, true≢false, cond, and-eq-true_iff, not}
 use mathlib.Core.List.{List, [], ◌∷◌, ◌++◌, Memᴰ}
-use mathlib.Core.Logic.{◌↔◌, ◌⊎◌, ⊎_elim}
+use mathlib.Core.Logic.{◌↔◌, ◌⊎◌, inl, inr, ⊎_elim}
 use Prim.Native.Nat.{ℕ, ◌+◌, ◌-◌, ◌*◌, ◌≤◌, ◌<◌}
 use native.Mathlib.Omega.{arith}
 use lib.ListN.{length, get_or}
@@ -12,19 +12,23 @@ use borrow.Author.Tests.{ne_eqb, eq-eqb, lt-leb, not-true}
 use Rattle.std.proofs.lemmas.Bool.{cases_Bool, cases_lt}
 use Rattle.rules.specs.Binary64.{◌≤ᶠ◌, ◌<ᶠ◌}
 use Rattle.rules.specs.Numbers.{max_cost}
-use Rattle.rules.specs.Simplex.{cost_of, point_of}
+use Rattle.rules.specs.Simplex.{cost_of, point_of, place}
 use Rattle.rules.specs.View.{is_ended}
-use Rattle.rules.specs.Trial.{no_axis, target, trial}
+use Rattle.rules.specs.Trial.{no_axis, within, target, trial}
 use Rattle.rules.specs.Refusals.{Verdict, check, answered}
 use Rattle.rules.specs.Opening.{opening, fresh}
 use Rattle.rules.specs.Accept.{gathered_of}
 use Rattle.rules.specs.Calls.{standing_of, undamaged, ask_verdict, tell_verdict, best_verdict, asking, telling, showing, told_by}
 use Rattle.rules.specs.History.{Call, tell, Event, told, after1, after, run, costs_in, joins, history1, history_from, history, reading}
-use Rattle.rules.specs.Claims.{IsRead, IsBest, within, Within, StopsOf, Claims}
+use Rattle.rules.specs.Claims.{IsRead, IsBest, Within, StopsOf, Claims}
+use Rattle.rules.specs.declared.Method.{Method}
+use Rattle.rules.specs.declared.Method.TheVariants.{NelderMead, Multidirectional}
 use Rattle.rules.specs.declared.Rule.{Rule}
 use Rattle.rules.specs.declared.Axis.{Axis}
 use Rattle.rules.specs.declared.Coefficients.{Coefficients}
 use Rattle.rules.specs.declared.Setup.{Setup}
+use Rattle.rules.specs.declared.Phase.{Phase}
+use Rattle.rules.specs.declared.Phase.TheVariants.{Building, Reflecting, Expanding, Contracting, Shrinking, Basing, Mirroring, Checking, Probing, Ended}
 use Rattle.rules.specs.declared.Search.{Search}
 use Rattle.rules.specs.declared.Asked.{Asked}
 use Rattle.rules.specs.declared.Vertex.{Vertex}
@@ -33,7 +37,7 @@ use Rattle.rules.specs.declared.Refusal.TheVariants.{SearchEnded, CostTooHigh, W
 use Rattle.rules.proofs.Laws.Clamp.{lt_le}
 use Rattle.rules.proofs.Laws.Openings.{opened_verdict, opened_fresh, opened_axis}
 use Rattle.rules.proofs.Laws.Histories.{Joined}
-use Rattle.rules.proofs.Runs.Begun.{Begun, whole_run}
+use Rattle.rules.proofs.Runs.Begun.{Begun, whole_run, run_noted}
 use Rattle.rules.proofs.Runs.Calling.{run_undamaged, all_follow}
 use Rattle.rules.proofs.Runs.Telling.{before_here, cost_here, joins_next, one_more, told_by_call}
 use Rattle.rules.proofs.Claim.{opened_begun, claim}
@@ -94,6 +98,19 @@ module _ (s : Search) (h : undamaged s ≡ true) where
   unfolding telling tell_verdict
   tell_not_12 k c e = grind (arith, h)
 
+-- a companion is asked in a phase, or not
+checking_or_not : (p : Phase) → ((i : ℕ) × (p ≡ Checking i)) ⊎ ((i : ℕ) → p ≡ Checking i → ⊥)
+checking_or_not (Checking i) = inl (i, refl)
+checking_or_not (Building k) = inr (λ i e. absurd cc)
+checking_or_not Reflecting = inr (λ i e. absurd cc)
+checking_or_not Expanding = inr (λ i e. absurd cc)
+checking_or_not (Contracting side) = inr (λ i e. absurd cc)
+checking_or_not (Shrinking k) = inr (λ i e. absurd cc)
+checking_or_not Basing = inr (λ i e. absurd cc)
+checking_or_not (Mirroring k) = inr (λ i e. absurd cc)
+checking_or_not (Probing p) = inr (λ i e. absurd cc)
+checking_or_not (Ended cause) = inr (λ i e. absurd cc)
+
 -- ---- one call more at the end of a list
 
 -- the search after a list of calls and one call more is what that call makes of the search after the list
@@ -110,13 +127,17 @@ history_snoc o h (d ∷ cs) c = history_snoc o (history1 o h d) cs c
 
 -- ---- every opening that is not refused, and every list of calls
 
-module _ (n : ℕ) (axes : List Axis) (rule : Option Rule) (coefficients : Coefficients) (budget : ℕ) (accepted : (opening n axes rule coefficients budget).verdict ≡ Ok tt) where
+module _ (m : Method) (n : ℕ) (axes : List Axis) (rule : Option Rule) (coefficients : Coefficients) (budget : ℕ) (accepted : (opening m n axes rule coefficients budget).verdict ≡ Ok tt) where
   -- the search as opened
   abbrev pub opened_search : Search
-  opened_search = (opening n axes rule coefficients budget).search
+  opened_search = (opening m n axes rule coefficients budget).search
 
-  setup_given : opened_search.setup ≡ (fresh n axes rule coefficients budget).setup
-  setup_given = ap (λ s. s.setup) (opened_fresh n axes rule coefficients budget accepted)
+  setup_given : opened_search.setup ≡ (fresh m n axes rule coefficients budget).setup
+  setup_given = ap (λ s. s.setup) (opened_fresh m n axes rule coefficients budget accepted)
+
+  method_given : opened_search.method ≡ m
+  unfolding fresh
+  method_given = ap (λ s. s.method) (opened_fresh m n axes rule coefficients budget accepted)
 
   -- what the calls have made of the opened search, their history, and the costs of it
   abbrev pub reached : List Call → Search
@@ -129,10 +150,10 @@ module _ (n : ℕ) (axes : List Axis) (rule : Option Rule) (coefficients : Coeff
   accepted_costs cs = costs_in (accepted_history cs)
 
   claims : (cs : List Call) → Claims opened_search (accepted_history cs) (reached cs)
-  claims = claim n axes rule coefficients budget accepted
+  claims = claim m n axes rule coefficients budget accepted
 
   begun : Begun opened_search
-  begun = opened_begun n axes rule coefficients budget accepted
+  begun = opened_begun m n axes rule coefficients budget accepted
 
   -- the search is that of the rules over an accepted history
   followed : (cs : List Call) → Joined opened_search (accepted_history cs) × (reached cs ≡ run opened_search (accepted_history cs))
@@ -171,8 +192,8 @@ module _ (n : ℕ) (axes : List Axis) (rule : Option Rule) (coefficients : Coeff
   permitted : (x : List Float) → Within opened_search.setup x → Permitted x
   unfolding fresh
   permitted x w a l =
-      let given : Within (fresh n axes rule coefficients budget).setup x = subst (λ (t : Setup). Within t x) setup_given w in
-      let e = opened_axis n axes rule coefficients budget (opened_verdict n axes rule coefficients budget accepted) a l in
+      let given : Within (fresh m n axes rule coefficients budget).setup x = subst (λ (t : Setup). Within t x) setup_given w in
+      let e = opened_axis m n axes rule coefficients budget (opened_verdict m n axes rule coefficients budget accepted) a l in
       permitted_on (get_or axes a no_axis) (get_or x a nan) (subst (λ (y : Axis). within y (get_or x a nan) ≡ true) e (given a l))
 
   pub controller_asked : (cs : List Call) → is_ended (reached cs).phase ≡ false → (a : Asked) × (asking (reached cs) ≡ Ok a) × Permitted a.trial.point
@@ -190,15 +211,29 @@ module _ (n : ℕ) (axes : List Axis) (rule : Option Rule) (coefficients : Coeff
       let y = get_or axes i no_axis in
       (i < n) × (y.ring ≡ false) × ((get_or x i nan ≡ y.lo) ⊎ (get_or x i nan ≡ y.hi))
 
+  -- the numbers of which the stops were counted, when the trial was asked or its companion was made
+  stops_by_phase : (cs : List Call) (a : Asked) → asking (reached cs) ≡ Ok a → opened_search.method ≡ Multidirectional
+      → ((i : ℕ) × ((reached cs).phase ≡ Checking i)) ⊎ ((i : ℕ) → (reached cs).phase ≡ Checking i → ⊥) → (f : ℕ → Float) × StopsOf opened_search.setup f a.trial
+  stops_by_phase cs a e md p =
+      let now = run opened_search (accepted_history cs) in
+      let of = (claims cs).multidirectional md in
+      ⊎_elim (λ c. of.stops_made a e c.0 c.1) (λ c. (target now now.phase, of.stops_asked a e c)) p
+
+  stops_by_method : (cs : List Call) (a : Asked) → asking (reached cs) ≡ Ok a → (k : Method) → opened_search.method ≡ k → (f : ℕ → Float) × StopsOf opened_search.setup f a.trial
+  stops_by_method cs a e NelderMead is = let now = run opened_search (accepted_history cs) in (target now now.phase, ((claims cs).nelder_mead is).stops_asked a e)
+  stops_by_method cs a e Multidirectional is = stops_by_phase cs a e is (checking_or_not (reached cs).phase)
+
+  stops_known : (cs : List Call) (a : Asked) → asking (reached cs) ≡ Ok a → (f : ℕ → Float) × StopsOf opened_search.setup f a.trial
+  stops_known cs a e = stops_by_method cs a e opened_search.method refl
+
   pub controller_stops : (cs : List Call) (a : Asked) → asking (reached cs) ≡ Ok a
       → (xs : List ℕ) × (a.trial.stops ≡ length xs) × ((i j : ℕ) → i < j → j < length xs → get_or xs i 0 < get_or xs j 0) × ((i : ℕ) → Memᴰ i xs → OnLimit a.trial.point i)
   unfolding fresh
   controller_stops cs a e =
       let x = a.trial.point in
-      let now = run opened_search (accepted_history cs) in
-      let given = opened_axis n axes rule coefficients budget (opened_verdict n axes rule coefficients budget accepted) in
-      let s : StopsOf (fresh n axes rule coefficients budget).setup (target now now.phase) a.trial =
-      subst (λ (t : Setup). StopsOf t (target now now.phase) a.trial) setup_given ((claims cs).stops_asked a e) in
+      let given = opened_axis m n axes rule coefficients budget (opened_verdict m n axes rule coefficients budget accepted) in
+      let counted = stops_known cs a e in
+      let s : StopsOf (fresh m n axes rule coefficients budget).setup counted.0 a.trial = subst (λ (t : Setup). StopsOf t counted.0 a.trial) setup_given counted.1 in
       let stands : (i : ℕ) → Memᴰ i s.axes → OnLimit x i = λ i m.
       let o = (s.outside i).0 m in
       let on = subst (λ (y : Axis). (get_or x i nan ≡ y.lo) ⊎ (get_or x i nan ≡ y.hi)) (given i o.0) (s.on_limit i m) in
@@ -295,19 +330,38 @@ module _ (n : ℕ) (axes : List Axis) (rule : Option Rule) (coefficients : Coeff
   pub panel_frame : (cs : List Call) (v : Vertex) → Shown cs v → Frame cs v
   panel_frame cs v s = ⊎_elim (λ m. frame cs v ((claims cs).vertices v m)) (⊎_elim (λ m. frame cs v ((claims cs).gathered v m)) (λ e. frame cs v (shown_read cs v e))) s
 
+  -- so does a companion of the multidirectional search that has been read
+  pub panel_companion : (cs : List Call) → m ≡ Multidirectional → 0 < length (accepted_costs cs) → (i : ℕ) → 1 ≤ i → i ≤ n
+      → let c = place (reached cs).standing i in (c.number ≡ 0 → ⊥) → Frame cs c
+  unfolding fresh
+  panel_companion cs md l i low high numbered =
+      let same : opened_search.setup.n ≡ n = ap (λ (t : Setup). t.n) setup_given in
+      let c = (((claims cs).multidirectional (method_given ∙ md)).companions l i low (omega arith)).0 in
+      ⊎_elim (λ u. absurd (numbered u.0)) (λ r. frame cs (place (reached cs).standing i) r) c
+
   -- ---- the schedule: the readings equation, from the first reading on
 
-  pub schedule : (cs : List Call) → let s = reached cs in 1 ≤ s.readings
+  pub schedule : (cs : List Call) → m ≡ NelderMead → let s = reached cs in 1 ≤ s.readings
       → s.readings ≡ 1 + n * s.counts.builds + s.counts.reflections + 2 * (s.counts.expansions + s.counts.contractions) + (n + 2) * s.counts.shrinks + s.counts.probes + s.counts.unfinished
   unfolding fresh
-  schedule cs l =
+  schedule cs nm l =
       let given : opened_search.setup.n ≡ n = ap (λ (t : Setup). t.n) setup_given in
-      rw given at ((claims cs).equation (omega (arith, (claims cs).readings)))
+      rw given at (((claims cs).nelder_mead (method_given ∙ nm)).equation (omega (arith, (claims cs).readings)))
+
+  -- in the multidirectional search readings are told in iterations and as probes, after the first, and at most 2n in each iteration
+  pub schedule_directed : (cs : List Call) → m ≡ Multidirectional → let s = reached cs in 1 ≤ s.readings
+      → (s.readings ≡ 1 + s.counts.directed + s.counts.probes) × (s.readings ≤ 1 + 2 * n * (s.counts.patterns + 1) + s.counts.probes)
+  unfolding fresh
+  schedule_directed cs md l =
+      let given : opened_search.setup.n ≡ n = ap (λ (t : Setup). t.n) setup_given in
+      let of = (claims cs).multidirectional (method_given ∙ md) in
+      (of.equation (omega (arith, (claims cs).readings)), rw given at of.bound)
 
   -- there are never more readings than the budget
   pub schedule_budget : (cs : List Call) → (reached cs).readings ≤ budget
   unfolding fresh
   schedule_budget cs =
       let r = whole_run opened_search begun (accepted_history cs) (followed cs).0 in
+      let noted = run_noted opened_search begun (accepted_history cs) (followed cs).0 in
       let given = ap (λ (t : Setup). t.budget) (r.kept ∙ setup_given) in
-      rw (followed cs).1 (omega (arith, r.inv.noted.below, given))
+      rw (followed cs).1 (omega (arith, noted.below, given))

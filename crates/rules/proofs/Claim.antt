@@ -107,11 +107,12 @@ module _ (o : Search) (begun : Begun o) where
           let some = some_told l in
           let g = inv.grouped some in
           let m : i ≤ (run o h).setup.n = omega (arith, same_n) in
-          let at = companion_at inv.noted some g i low m in
-          (subst (λ (c : Vertex). ((c.number ≡ 0) × (c.cost ≡ 0)) ⊎ IsRead o h c) (sym at)
-          (⊎_elim (λ r. inr (is_read o begun h t (g.f i) r)) (λ u. inl (ap number_in u.are, ap cost_of u.are)) (g.each i low m)),
-          subst (λ (s : Setup). Within s (place (run o h).standing i).point) (whole_run o begun h t).kept
-          (companion_inside (readings_of o h) (run o h) inv some (run_inside o begun h t) i low m))
+          let at = companion_at inv.noted some g i low m in (
+            subst (λ (c : Vertex). ((c.number ≡ 0) × (c.cost ≡ 0)) ⊎ IsRead o h c) (sym at)
+                (⊎_elim (λ r. inr (is_read o begun h t (g.f i) r)) (λ u. inl (ap number_in u.are, ap cost_of u.are)) (g.each i low m)),
+            subst (λ (s : Setup). Within s (place (run o h).standing i).point) (whole_run o begun h t).kept
+                (companion_inside (readings_of o h) (run o h) inv some (run_inside o begun h t) i low m),
+          )
 
       -- the bound, and the equation that it comes from
       counted_by_method : Directed o.setup.n (run o h).readings (run o h).counts

@@ -6,7 +6,7 @@ use Rattle.rules.specs.View.{is_ended, gathered_in}
 use Rattle.rules.specs.Trial.{point_in, trial}
 use Rattle.rules.specs.Count.{same, told_in, finished}
 use Rattle.rules.specs.Stop.{apart, movement, tested}
-use Rattle.rules.specs.Companions.{base, group_after, group_read, stop_after, stops_by}
+use Rattle.rules.specs.Companions.{group_after, group_read, stop_after, stops_by}
 use Rattle.rules.specs.Decide.{decided, finished_by}
 use Rattle.rules.specs.declared.Vertex.{Vertex}
 use Rattle.rules.specs.declared.Simplex.{Simplex}

@@ -1,5 +1,5 @@
 -- "Refused calls", the rows of the later calls: ask, tell and best, their refusals in table order, and their answers.
-use Rattle.std.specs.Prelude.{Bool, true, false, cond, not, ◌&&◌, ◌||◌, List, [], ◌∷◌, ℕ, zero, suc, ◌+◌, ◌*◌, get_or, take, leb, ltb, eqb, Result, Ok, Err, Float}
+use Rattle.std.specs.Prelude.{Bool, true, cond, not, ◌&&◌, ◌||◌, List, [], ◌∷◌, ℕ, zero, suc, ◌+◌, ◌*◌, get_or, take, leb, ltb, eqb, Result, Ok, Err, Float}
 use Rattle.rules.specs.Binary64.{0ᶠ}
 use Rattle.rules.specs.Numbers.{max_cost, max_budget, max_spread}
 use Rattle.rules.specs.Simplex.{first_of, unpack}

@@ -1,15 +1,13 @@
 -- The companions of a multidirectional search that an opening and calls have made: their limits and their stops. Assumes nothing.
-use mathlib.Core.Path.{◌≡◌, refl, sym, ap, ◌∙◌, subst}
-use mathlib.Core.Bool.{true}
+use mathlib.Core.Path.{◌≡◌, sym, ap, ◌∙◌, subst}
 use mathlib.Core.List.{List, Memᴰ}
 use mathlib.Core.Logic.{⊎_elim}
 use Prim.Native.Nat.{ℕ, ◌≤◌, ◌<◌}
 use native.Mathlib.Omega.{arith}
 use lib.ListN.{get_or}
 use lib.Ieee.{Float, nan}
-use Rattle.rules.specs.Simplex.{place, point, point_of, number_in}
-use Rattle.rules.specs.Trial.{axis, brought, within, entry, made, trial}
-use Rattle.rules.specs.Companions.{unread_at}
+use Rattle.rules.specs.Simplex.{place, number_in}
+use Rattle.rules.specs.Trial.{axis, brought, entry, made, trial}
 use Rattle.rules.specs.Claims.{Within, StopsOf}
 use Rattle.rules.specs.declared.Vertex.{Vertex}
 use Rattle.rules.specs.declared.Trial.{Trial}
@@ -21,8 +19,8 @@ use Rattle.rules.proofs.Laws.Axes.{brought_within, brought_again}
 use Rattle.rules.proofs.Laws.Stopped.{stops_of}
 use Rattle.rules.proofs.Laws.Openings.{Sane}
 use Rattle.rules.proofs.Laws.Grouping.{entry_at}
-use Rattle.rules.proofs.Steps.Grouped.{Unread, Companion, Grouped, AtCheck, Multi}
-use Rattle.rules.proofs.Steps.Turning.{base_at, companion_at}
+use Rattle.rules.proofs.Steps.Grouped.{Unread, AtCheck, Multi}
+use Rattle.rules.proofs.Steps.Turning.{companion_at}
 
 -- the readings lie within the limits
 abbrev pub Inside : Setup → List Vertex → Type 0

@@ -20,7 +20,7 @@ use Rattle.rules.specs.Companions.{group}
 use Rattle.rules.specs.Claims.{Within}
 use Rattle.rules.specs.View.{is_ended, gathered_in}
 use Rattle.rules.specs.Calls.{sound_phase, standing_in, ordered_in, in_order, all_costs, sound_companions, sound, intact, undamaged}
-use Rattle.rules.specs.declared.Method.TheVariants.{NelderMead, Multidirectional}
+use Rattle.rules.specs.declared.Method.TheVariants.{Multidirectional}
 use Rattle.rules.specs.declared.Piece.TheVariants.{Build, Reflection, Expansion, Contraction, Shrink}
 use Rattle.rules.specs.declared.Setup.{Setup}
 use Rattle.rules.specs.declared.Vertex.{Vertex}

@@ -25,7 +25,7 @@ use Rattle.rules.specs.declared.Counts.{Counts}
 use Rattle.rules.specs.declared.Setup.{Setup}
 use Rattle.rules.specs.declared.Search.{Search}
 use Rattle.rules.specs.declared.Phase.{Phase}
-use Rattle.rules.specs.declared.Phase.TheVariants.{Building, Reflecting, Expanding, Contracting, Shrinking, Basing, Mirroring, Checking, Probing, Ended}
+use Rattle.rules.specs.declared.Phase.TheVariants.{Building, Reflecting, Expanding, Contracting, Shrinking, Probing, Ended}
 use Rattle.rules.specs.declared.Cause.TheVariants.{Settled}
 use Rattle.rules.specs.declared.Piece.{Piece}
 use Rattle.rules.specs.declared.Piece.TheVariants.{Build, Reflection, Expansion, Contraction, Shrink, Pattern}
@@ -39,7 +39,7 @@ use Rattle.rules.proofs.Laws.Finishing.{pieces_by}
 use Rattle.rules.proofs.Steps.Invariant.{Known, Leads, Noted, Stands, Gathers, Equation, Undirected, Idle, At, Inv}
 use Rattle.rules.proofs.Steps.Noting.{◌▹◌, NotedWith}
 use Rattle.rules.proofs.Steps.Counting.{Counted, counted_by, readings_in, closes, equation_told, undirected_told}
-use Rattle.rules.proofs.Steps.Grouped.{Multi, Any}
+use Rattle.rules.proofs.Steps.Grouped.{Any}
 
 -- ---- one reading
 

@@ -1,11 +1,11 @@
 -- A reading of the multidirectional search: the base, a reflection, a companion or a probe. Assumes nothing.
-use Rattle.std.specs.Prelude.{Option, Some, None}
+use Rattle.std.specs.Prelude.{Some}
 use mathlib.Core.Path.{◌≡◌, refl, sym, ap, ◌∙◌, subst}
 use mathlib.Core.Bool.{Bool, true, false, true≢false, cond}
 use mathlib.Core.List.Memᴰ
 use mathlib.Core.List.{List, [], ◌∷◌, ◌++◌, Memᴰ}
-use mathlib.Core.Logic.{◌⊎◌, inl, inr, ⊎_elim, ⊎_map}
-use Prim.Native.Nat.{ℕ, zero, suc, ◌+◌, ◌-◌, ◌*◌, ◌≤◌, ◌<◌}
+use mathlib.Core.Logic.{inl, inr, ⊎_elim, ⊎_map}
+use Prim.Native.Nat.{ℕ, ◌+◌, ◌-◌, ◌*◌, ◌≤◌, ◌<◌}
 use native.Mathlib.Omega.{arith}
 use lib.ListN.{length, get_or, length-append}
 use lib.Dec.{eqb, leb, ltb}
@@ -15,10 +15,10 @@ use Rattle.std.proofs.lemmas.Bool.{cond_both, cases_Bool}
 use Rattle.rules.specs.Simplex.{up_to, blank, pack, place, unpack, cost_of, number_in}
 use Rattle.rules.specs.View.{view, is_ended, gathered_in, is_probe, is_directed, open_by}
 use Rattle.rules.specs.Trial.{made, build_step, axis, target, brought}
-use Rattle.rules.specs.Count.{same, count_in, told_in, counted, finished}
-use Rattle.rules.specs.Companions.{unread_at, built, reflection, halved, halfway, base, base_after, companion_after, stop_after, group, group_after, group_read, stops_by, next_unread}
+use Rattle.rules.specs.Count.{same, count_in, told_in, counted}
+use Rattle.rules.specs.Companions.{unread_at, reflection, halfway, base, base_after, companion_after, stop_after, group, group_read, next_unread}
 use Rattle.rules.specs.Decide.{f1, is_last, is_full, lower, checks_from, ends_round, restart, decided, completed, finished_by}
-use Rattle.rules.specs.Accept.{entrant, gathered_of, standing_after, gathered_after, stops_after, tested_phase, opens, is_met, is_spent, spent_phase, counts_after, best_after, acted}
+use Rattle.rules.specs.Accept.{entrant, gathered_of, standing_after, gathered_after, stops_after, tested_phase, is_met, is_spent, spent_phase, counts_after, best_after, acted}
 use Rattle.rules.specs.Calls.{standing_of}
 use Rattle.rules.specs.Stop.{total}
 use Rattle.rules.specs.Tally.{count_of, is_open}
@@ -29,7 +29,7 @@ use Rattle.rules.specs.declared.Simplex.{Simplex}
 use Rattle.rules.specs.declared.Counts.{Counts}
 use Rattle.rules.specs.declared.Setup.{Setup}
 use Rattle.rules.specs.declared.Search.{Search}
-use Rattle.rules.specs.declared.View.TheVariants.{Turns, Probes}
+use Rattle.rules.specs.declared.View.TheVariants.{Turns}
 use Rattle.rules.specs.declared.Phase.{Phase}
 use Rattle.rules.specs.declared.Phase.TheVariants.{Basing, Mirroring, Checking, Probing, Ended}
 use Rattle.rules.specs.declared.Cause.TheVariants.{Settled}
@@ -43,14 +43,14 @@ use Rattle.rules.specs.declared.Decision.{Decision}
 use Rattle.rules.specs.declared.Decision.TheVariants.{Go, Regroup}
 use Rattle.rules.proofs.Laws.Tests.{spent_elim, spent_ends}
 use Rattle.rules.proofs.Laws.Lists.{mem_get_or, length_point}
-use Rattle.rules.proofs.Laws.Places.{Whole, place_pack, cost_pack, number_pack}
+use Rattle.rules.proofs.Laws.Places.{Whole, place_pack, number_pack}
 use Rattle.rules.proofs.Laws.Grouping.{length_group, get_or_group, whole_group, get_or_stops, found_next}
 use Rattle.rules.proofs.Laws.Finishing.{pieces_by}
-use Rattle.rules.proofs.Steps.Invariant.{Known, Gathers, Noted}
-use Rattle.rules.proofs.Steps.Grouped.{Unread, Companion, Grouped, Directed, AtMirror, AtCheck, AtProbe, AtMulti, Multi}
+use Rattle.rules.proofs.Steps.Invariant.{Gathers, Noted}
+use Rattle.rules.proofs.Steps.Grouped.{Companion, Grouped, Directed, AtMirror, AtCheck, AtProbe, AtMulti, Multi}
 use Rattle.rules.proofs.Steps.Noting.{◌▹◌, NotedWith, best_mem, known_more, known_new, best_falls, best_stays}
 use Rattle.rules.proofs.Steps.Counting.{counted_by, count_by, told_count}
-use Rattle.rules.proofs.Steps.Stepping.{NoRound, Goes, TakesReading, whole, places_are, others_in}
+use Rattle.rules.proofs.Steps.Stepping.{NoRound, Goes, whole, places_are, others_in}
 
 -- ---- the counts
 
