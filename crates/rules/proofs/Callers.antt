@@ -217,7 +217,7 @@ module _ (m : Method) (n : ℕ) (axes : List Axis) (rule : Option Rule) (coeffic
   stops_by_phase cs a e md p =
       let now = run opened_search (accepted_history cs) in
       let of = (claims cs).multidirectional md in
-      ⊎_elim (λ c. of.stops_made a e c.0 c.1) (λ c. (target now now.phase, of.stops_asked a e c)) p
+      ⊎_elim (λ c. let r = of.stops_made a e c.0 c.1 in (r.0, r.2)) (λ c. (target now now.phase, of.stops_asked a e c)) p
 
   stops_by_method : (cs : List Call) (a : Asked) → asking (reached cs) ≡ Ok a → (k : Method) → opened_search.method ≡ k → (f : ℕ → Float) × StopsOf opened_search.setup f a.trial
   stops_by_method cs a e NelderMead is = let now = run opened_search (accepted_history cs) in (target now now.phase, ((claims cs).nelder_mead is).stops_asked a e)

@@ -13,7 +13,7 @@ use Rattle.rules.specs.Trial.{target, trial}
 use Rattle.rules.specs.Calls.{standing_of, asking}
 use Rattle.rules.specs.History.{Event, told, Call, after, run, costs_in, history}
 use Rattle.rules.specs.Tally.{readings_by, Ends}
-use Rattle.rules.specs.Claims.{IsRead, IsBest, Within, StopsOf, BoundAfter, FullRound, OfNelderMead, OfMultidirectional, Claims}
+use Rattle.rules.specs.Claims.{IsRead, IsBest, Within, StopsOf, BoundAfter, FullRound, MadeAt, OfNelderMead, OfMultidirectional, Claims}
 use Rattle.rules.specs.declared.Method.{Method}
 use Rattle.rules.specs.declared.Method.TheVariants.{NelderMead, Multidirectional}
 use Rattle.rules.specs.declared.Rule.{Rule}
@@ -29,7 +29,7 @@ use Rattle.rules.specs.declared.Phase.TheVariants.{Checking, Ended}
 use Rattle.rules.specs.declared.Cause.TheVariants.{Settled}
 use Rattle.rules.proofs.Laws.Openings.{opened_verdict, opened_fresh, opened_suits, opened_sane}
 use Rattle.rules.proofs.Laws.Histories.{Joined, readings_of}
-use Rattle.rules.proofs.Steps.Grouped.{Directed, AtCheck, Multi}
+use Rattle.rules.proofs.Steps.Grouped.{Directed, AtCheck, MultiOf}
 use Rattle.rules.proofs.Steps.Turning.{none_stands, companion_at}
 use Rattle.rules.proofs.Runs.Companions.{companion_inside, companion_stops}
 use Rattle.rules.proofs.Runs.Begun.{Begun, fresh_begun, whole_run, run_inv, run_multi, is_read, are_read, run_readings, run_counts, run_probes, run_directed, run_unfinished, run_standing, run_places, run_vertices, run_gathered, run_read}
@@ -91,7 +91,7 @@ module _ (o : Search) (begun : Begun o) where
     base_of h t before e since is ends = run_base o begun before e since (rw is at t) md ends
 
     module _ (h : List Event) (t : Joined o h) where
-      inv : Multi (readings_of o h) (run o h)
+      inv : MultiOf (MadeAt o h) (readings_of o h) (run o h)
       inv = run_multi o begun h t md
 
       same_n : (run o h).setup.n ≡ o.setup.n
@@ -124,11 +124,11 @@ module _ (o : Search) (begun : Begun o) where
       equation_by : 0 < length (costs_in h) → (run o h).readings ≡ 1 + (run o h).counts.directed + (run o h).counts.probes
       equation_by l = omega (arith, counted_by_method.equation, some_told l)
 
-      stops_made_by : (a : Asked) → asking (run o h) ≡ Ok a → (i : ℕ) → (run o h).phase ≡ Checking i → (f : ℕ → Float) × StopsOf o.setup f a.trial
+      stops_made_by : (a : Asked) → asking (run o h) ≡ Ok a → (i : ℕ) → (run o h).phase ≡ Checking i → (f : ℕ → Float) × MadeAt o h i f × StopsOf o.setup f a.trial
       stops_made_by a e i now =
           let here : AtCheck i (run o h).setup.n (run o h).standing.numbers (run o h).readings (run o h).counts = rw now at inv.phase in
           let r = companion_stops (readings_of o h) (run o h) inv here.some i now in
-          (r.0, rw (asked_trial o begun h t a e).1 (subst (λ (s : Setup). StopsOf s r.0 (trial (run o h))) (whole_run o begun h t).kept r.1))
+          (r.0, r.1, rw (asked_trial o begun h t a e).1 (subst (λ (s : Setup). StopsOf s r.0 (trial (run o h))) (whole_run o begun h t).kept r.2))
 
       of_base : OfMultidirectional o h (run o h)
       of_base =

@@ -5,11 +5,13 @@ use mathlib.Core.Logic.{◌⊎◌}
 use Rattle.std.specs.Float.{nan}
 use Rattle.rules.specs.Binary64.{brought_round}
 use Rattle.rules.specs.Simplex.{blank, cost_of, place, pack, Ordered}
-use Rattle.rules.specs.Trial.{axis, within, target, trial}
+use Rattle.rules.specs.Trial.{axis, within, mirrored, build_step, target, trial}
 use Rattle.rules.specs.Stop.{total}
 use Rattle.rules.specs.View.{is_ended}
 use Rattle.rules.specs.Count.{same, count_in}
-use Rattle.rules.specs.Accept.{gathered_of}
+use Rattle.rules.specs.Companions.{halfway}
+use Rattle.rules.specs.Decide.{decided}
+use Rattle.rules.specs.Accept.{gathered_of, reading_of}
 use Rattle.rules.specs.Calls.{standing_of, showing, asking, telling}
 use Rattle.rules.specs.History.{Event, told, run, costs_in, joins, reading, EarliestLeast}
 use Rattle.rules.specs.Tally.{made, others, probes_in, directed_in, open_in, readings_by, Ends, EndsIn}
@@ -18,6 +20,10 @@ use Rattle.rules.specs.declared.Piece.TheVariants.{Build, Shrink, Pattern}
 use Rattle.rules.specs.declared.Phase.TheVariants.{Checking, Probing, Ended}
 use Rattle.rules.specs.declared.Cause.TheVariants.{Settled, Budget}
 use Rattle.rules.specs.declared.Method.TheVariants.{NelderMead, Multidirectional}
+use Rattle.rules.specs.declared.Change.{Change}
+use Rattle.rules.specs.declared.Change.TheVariants.{Built, Mirrored, Swapped, Halved}
+use Rattle.rules.specs.declared.Decision.{Decision}
+use Rattle.rules.specs.declared.Decision.TheVariants.{Regroup}
 use Rattle.rules.specs.declared.Vertex.{Vertex}
 use Rattle.rules.specs.declared.Simplex.{Simplex}
 use Rattle.rules.specs.declared.Trial.{Trial}
@@ -79,6 +85,27 @@ pub record FullRound (o : Search) (before : List Event) (round : List ℕ) : Typ
   pub full : length round ≡ 2 * o.setup.n
   pub none_lower : (j : ℕ) → j < length round → (run o before).best.cost ≤ get_or round j 0
 
+-- f are the numbers that a change makes companion i of, before they are brought in, v being the reading: "built as in document 01", the reflection
+-- that becomes a companion, "xi + ½·(x0 − xi)"
+abbrev pub Makes : Change → Vertex → Search → ℕ → (ℕ → Float) → Type 0
+Makes Built v s i f = (a : ℕ) → f a ≡ build_step (axis s.setup a) (get_or v.point a nan) i a
+Makes (Mirrored j) v s i f = (j < i) × ((a : ℕ) → f a ≡ mirrored s.standing.points i a)
+Makes (Swapped j) v s i f = ⊥
+Makes Halved v s i f = (a : ℕ) → f a ≡ halfway s.standing.points i a
+
+-- and so with a decision
+abbrev pub Renews : Decision → Vertex → Search → ℕ → (ℕ → Float) → Type 0
+Renews (Regroup change) v s i f = Makes change v s i f
+Renews _ v s i f = ⊥
+
+-- a cost of the history h made companion i of the numbers f
+pub record MadeAt (o : Search) (h : List Event) (i : ℕ) (f : ℕ → Float) : Type 0 where
+  pub before : List Event
+  pub cost : ℕ
+  pub since : List Event
+  pub splits : h ≡ before ++ told cost ∷ since
+  pub renews : let s = run o before in Renews (decided s.phase s cost) (reading_of s cost) s i f
+
 -- what holds of Nelder-Mead. o: the search as opened; h: the history; s: the search that the last call returned
 pub record OfNelderMead (o : Search) (h : List Event) (s : Search) : Type 0 where
   -- order: "Vertices are ordered by cost, lowest first"
@@ -115,9 +142,10 @@ pub record OfMultidirectional (o : Search) (h : List Event) (s : Search) : Type 
   -- "readings are at most 1 + 2n·(finished iterations + 1) + probes"
   pub bound : s.readings ≤ 1 + 2 * o.setup.n * (s.counts.patterns + 1) + s.counts.probes
   pub equation : 0 < length (costs_in h) → s.readings ≡ 1 + s.counts.directed + s.counts.probes
-  -- the stops that ask answers, against the numbers that the rules ask for; those of a companion against the numbers, f, that it was made of
+  -- the stops that ask answers, against the numbers that the rules ask for; those of a companion against the numbers that it was made of, when it
+  -- was made
   pub stops_asked : (a : Asked) → asking s ≡ Ok a → ((i : ℕ) → s.phase ≡ Checking i → ⊥) → StopsOf o.setup (target (run o h) (run o h).phase) a.trial
-  pub stops_made : (a : Asked) → asking s ≡ Ok a → (i : ℕ) → s.phase ≡ Checking i → (f : ℕ → Float) × StopsOf o.setup f a.trial
+  pub stops_made : (a : Asked) → asking s ≡ Ok a → (i : ℕ) → s.phase ≡ Checking i → (f : ℕ → Float) × MadeAt o h i f × StopsOf o.setup f a.trial
 
 -- what holds of either method, and what of each
 pub record Claims (o : Search) (h : List Event) (s : Search) : Type 0 where

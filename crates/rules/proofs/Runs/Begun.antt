@@ -21,7 +21,7 @@ use Rattle.rules.specs.Accept.{gathered_of}
 use Rattle.rules.specs.Calls.{standing_of}
 use Rattle.rules.specs.History.{Event, run, costs_in, reading, EarliestLeast}
 use Rattle.rules.specs.Tally.{made, probes_in, directed_in, open_in}
-use Rattle.rules.specs.Claims.{IsRead, AreRead, IsBest}
+use Rattle.rules.specs.Claims.{IsRead, AreRead, IsBest, MadeAt}
 use Rattle.rules.specs.declared.Method.{Method}
 use Rattle.rules.specs.declared.Method.TheVariants.{NelderMead, Multidirectional}
 use Rattle.rules.specs.declared.Rule.{Rule}
@@ -38,17 +38,17 @@ use Rattle.rules.proofs.Laws.Places.{place_cases}
 use Rattle.rules.proofs.Laws.Openings.{Sane}
 use Rattle.rules.proofs.Laws.Histories.{readings_of, Joined, costs_readings_of, get_or_readings_of, mem_readings_of}
 use Rattle.rules.proofs.Steps.Invariant.{Known, Best, Noted, Inv}
-use Rattle.rules.proofs.Steps.Grouped.{Multi, Any}
+use Rattle.rules.proofs.Steps.Grouped.{NoneYet, MultiOf, AnyOf, Any, any_more}
 use Rattle.rules.proofs.Steps.Noting.{best_mem}
 use Rattle.rules.proofs.Steps.Counting.{count_by}
 use Rattle.rules.proofs.Steps.Stepping.{BelowBudget, whole, standing_list, gathered_list}
-use Rattle.rules.proofs.Runs.Running.{Ran, ran, fresh_any, fresh_below}
+use Rattle.rules.proofs.Runs.Running.{Ran, ran, ran_made, made_at, fresh_any, fresh_below}
 use Rattle.rules.proofs.Steps.Turning.{none_stands, none_gathered_yet}
 use Rattle.rules.proofs.Steps.Accepting.{noted_of}
 
 -- a search as an opening gives it: nothing told, nothing counted
 pub record Begun (o : Search) : Type 0 where
-  pub inv : Any [] o
+  pub inv : AnyOf NoneYet [] o
   pub below : BelowBudget o
   pub counts : o.counts ≡ no_counts
   pub phase : o.phase ≡ first_phase o.method
@@ -59,10 +59,19 @@ unfolding fresh
 fresh_begun m n axes rule c budget h suited =
     record { inv = fresh_any n axes rule c budget m h suited; below = fresh_below n axes rule c budget m h; counts = refl; phase = refl }
 
+pub begun_any : (o : Search) → Begun o → Any [] o
+begun_any o begun = any_more [] o (λ i f q. tt) begun.inv
+
 module _ (o : Search) (begun : Begun o) where
   module _ (h : List Event) (t : Joined o h) where
     pub whole_run : Ran [] o h
-    whole_run = ran [] o begun.inv begun.below h t
+    whole_run = ran [] o (begun_any o begun) begun.below h t
+
+    -- each unread companion was made by a cost of the history
+    pub run_made : AnyOf (MadeAt o h) (readings_of o h) (run o h)
+    run_made =
+        any_more {P = MadeAt o h} (readings_of o h) (run o h) (λ i f. ⊎_elim (λ q. absurd q) (λ m. made_at o h i f m))
+        (ran_made NoneYet [] o begun.inv begun.below h t)
 
     pub run_any : Any (readings_of o h) (run o h)
     run_any = whole_run.inv
@@ -155,8 +164,8 @@ module _ (o : Search) (begun : Begun o) where
 
     -- ---- the multidirectional method
 
-    pub run_multi : o.method ≡ Multidirectional → Multi (readings_of o h) (run o h)
-    run_multi md = ⊎_elim (λ i. absurd (let other : NelderMead ≡ Multidirectional = sym i.method ∙ whole_run.method ∙ md in cc)) (λ i. i) run_any
+    pub run_multi : o.method ≡ Multidirectional → MultiOf (MadeAt o h) (readings_of o h) (run o h)
+    run_multi md = ⊎_elim (λ i. absurd (let other : NelderMead ≡ Multidirectional = sym i.method ∙ whole_run.method ∙ md in cc)) (λ i. i) run_made
 
     -- ---- either method
 

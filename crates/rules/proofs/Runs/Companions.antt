@@ -19,7 +19,7 @@ use Rattle.rules.proofs.Laws.Axes.{brought_within, brought_again}
 use Rattle.rules.proofs.Laws.Stopped.{stops_of}
 use Rattle.rules.proofs.Laws.Openings.{Sane}
 use Rattle.rules.proofs.Laws.Grouping.{entry_at}
-use Rattle.rules.proofs.Steps.Grouped.{Unread, AtCheck, Multi}
+use Rattle.rules.proofs.Steps.Grouped.{Unread, AtCheck, MultiOf}
 use Rattle.rules.proofs.Steps.Turning.{companion_at}
 
 -- the readings lie within the limits
@@ -30,7 +30,7 @@ Inside t rs = (v : Vertex) → Memᴰ v rs → Within t v.point
 made_within : (t : Setup) (f : ℕ → Float) → Sane t → Within t (made t t.n f).point
 made_within t f h a l = rw (get_or_point t.n (λ b. brought t b (f b)) a l) (brought_within (axis t a) (f a) (h.limits a l))
 
-module _ (rs : List Vertex) (s : Search) (inv : Multi rs s) (some : 1 ≤ s.readings) where
+module _ {Q : ℕ → (ℕ → Float) → Type 0} (rs : List Vertex) (s : Search) (inv : MultiOf Q rs s) (some : 1 ≤ s.readings) where
   -- each companion lies within the limits
   pub companion_inside : Inside s.setup rs → (i : ℕ) → 1 ≤ i → i ≤ s.setup.n → Within s.setup (place s.standing i).point
   companion_inside inside i l h =
@@ -43,14 +43,14 @@ module _ (rs : List Vertex) (s : Search) (inv : Multi rs s) (some : 1 ≤ s.read
       (g.each i l h))
 
   -- an unread one is asked as it was made, with the stops of that moment
-  pub companion_stops : (i : ℕ) → s.phase ≡ Checking i → (f : ℕ → Float) × StopsOf s.setup f (trial s)
+  pub companion_stops : (i : ℕ) → s.phase ≡ Checking i → (f : ℕ → Float) × Q i f × StopsOf s.setup f (trial s)
   unfolding trial
   companion_stops i now =
       let g = inv.grouped some in
       let t = s.setup in
       let here : AtCheck i t.n s.standing.numbers s.readings s.counts = rw now at inv.phase in
       let stands = companion_at inv.noted some g i here.low here.high in
-      let unread : Unread t (g.f i) (get_or s.stops i 0) =
+      let unread : Unread (Q i) t (g.f i) (get_or s.stops i 0) =
       ⊎_elim
       (λ m. absurd (let numbered = (inv.noted.shapes (g.f i) m).numbered in let none : (g.f i).number ≡ 0 = sym (ap number_in stands) ∙ here.unread in omega arith))
       (λ u. u)
@@ -62,4 +62,4 @@ module _ (rs : List Vertex) (s : Search) (inv : Multi rs s) (some : 1 ≤ s.read
       entry_at s.standing i a (omega (arith, inv.noted.sane.at_most8)) ∙ ap (λ (c : Vertex). get_or c.point a nan) (stands ∙ unread.are) ∙ get_or_point t.n (λ b. brought t b (f b)) a l in
       ap (λ (v : Float). brought t a v) at ∙ brought_again (axis t a) (f a) (inv.noted.sane.limits a l) in
       let points = point_same t.n (λ a. brought t a (entry s.standing.points a i)) (λ a. brought t a (f a)) same in
-      (f, rw now (subst (λ (x : Trial). StopsOf t f x) (λ j. record { point = sym points j; stops = sym unread.count j }) (stops_of t f inv.noted.sane.limits)))
+      (f, unread.origin, rw now (subst (λ (x : Trial). StopsOf t f x) (λ j. record { point = sym points j; stops = sym unread.count j }) (stops_of t f inv.noted.sane.limits)))

@@ -32,7 +32,7 @@ use Rattle.rules.proofs.Steps.Invariant.{Leads}
 use Rattle.rules.proofs.Steps.Accepting.{event_step}
 use Rattle.rules.proofs.Runs.Running.{ran}
 use Rattle.rules.proofs.Runs.Companions.{Inside}
-use Rattle.rules.proofs.Runs.Begun.{Begun, whole_run, run_noted, run_readings, run_best}
+use Rattle.rules.proofs.Runs.Begun.{Begun, begun_any, whole_run, run_noted, run_readings, run_best}
 use Rattle.rules.proofs.Runs.Settling.{EndsFull, Rounds, rounds, settles}
 
 -- a search that has ended without settling has ended by its budget
@@ -104,7 +104,7 @@ module _ (o : Search) (begun : Begun o) where
 
   pub run_settled_only : (h : List Event) → Joined o h → (run o h).phase ≡ Ended Settled → EndsFull o h
   unfolding run
-  run_settled_only h t e = rw e at (rounds o [] o refl [] begun.inv begun.below refl (subst (λ (p : Phase). Rounds o [] o.best.cost p) (sym begun.phase) (no_round_yet o.method)) h t)
+  run_settled_only h t e = rw e at (rounds o [] o refl [] (begun_any o begun) begun.below refl (subst (λ (p : Phase). Rounds o [] o.best.cost p) (sym begun.phase) (no_round_yet o.method)) h t)
 
   round_settles : (before : List Event) (round : List ℕ) → Joined o (before ++ map told round) → FullRound o before round → (run o (before ++ map told round)).phase ≡ Ended Settled
   round_settles before round t f =

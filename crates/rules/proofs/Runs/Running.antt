@@ -2,7 +2,8 @@
 use Rattle.std.specs.Prelude.{Option}
 use mathlib.Core.Path.{◌≡◌, refl, ap, ◌∙◌}
 use mathlib.Core.Bool.{true}
-use mathlib.Core.Logic.{inl, inr}
+use mathlib.Core.Logic.{◌⊎◌, inl, inr, ⊎_elim}
+use lib.Ieee.{Float}
 use mathlib.Core.List.Memᴰ
 use mathlib.Core.List.{List, [], ◌∷◌, ◌++◌, append_assoc, append-nil}
 use Prim.Native.Nat.{ℕ, ◌+◌, ◌≤◌}
@@ -10,7 +11,9 @@ use native.Mathlib.Omega.{arith}
 use Rattle.rules.specs.Simplex.{blank, pack, Ordered}
 use Rattle.rules.specs.Stop.{suits}
 use Rattle.rules.specs.Opening.{rule_of, fresh}
-use Rattle.rules.specs.History.{Event, step, run}
+use Rattle.rules.specs.Accept.{accept}
+use Rattle.rules.specs.History.{Event, told, step, run}
+use Rattle.rules.specs.Claims.{MadeAt}
 use Rattle.rules.specs.Tally.{finishes, pieces, count_of, probe_by, probes_in, direct_by, directed_in, open_in}
 use Rattle.rules.specs.declared.Rule.{Rule}
 use Rattle.rules.specs.declared.Method.{Method}
@@ -26,10 +29,10 @@ use Rattle.rules.specs.declared.Piece.TheVariants.{Build, Shrink}
 use Rattle.rules.proofs.Laws.Openings.{Sane}
 use Rattle.rules.proofs.Laws.Histories.{read_by, readings_of, Joined, count_of_append}
 use Rattle.rules.proofs.Steps.Invariant.{Noted, Gathers, Inv}
-use Rattle.rules.proofs.Steps.Grouped.{Multi, Any}
+use Rattle.rules.proofs.Steps.Grouped.{NoneYet, MultiOf, AnyOf, Any, any_more}
 use Rattle.rules.proofs.Steps.Counting.{Counted, count_by}
 use Rattle.rules.proofs.Steps.Stepping.{BelowBudget, TakesReading, others_in, standing_costs}
-use Rattle.rules.proofs.Steps.Accepting.{event_step}
+use Rattle.rules.proofs.Steps.Accepting.{NewBy, event_step_of, event_step}
 
 -- ---- counts of one list of pieces after another
 
@@ -67,7 +70,7 @@ falls_append : (ps qs : List Piece) (a b c : ℕ)
     → count_of Build (ps ++ qs) ≡ 0 → count_of Shrink (ps ++ qs) ≡ 0 → others_in (ps ++ qs) + c ≤ a
 falls_append ps qs a b c h g x y = grind (arith, count_of_append, h, g, x, y)
 
-ran_more : (rs : List Vertex) (s : Search) (e : Event) (h : List Event) → TakesReading (rs ++ read_by s e) (finishes s e) (probe_by s e) (direct_by s e) s (step s e)
+ran_more : (rs : List Vertex) (s : Search) (e : Event) (h : List Event) → TakesReading Any (rs ++ read_by s e) (finishes s e) (probe_by s e) (direct_by s e) s (step s e)
     → Ran (rs ++ read_by s e) (step s e) h → Ran rs s (e ∷ h)
 unfolding run readings_of pieces probes_in directed_in open_in
 ran_more rs s e h g r =
@@ -89,6 +92,37 @@ ran rs s inv below [] t = ran_none rs s inv below
 ran rs s inv below (e ∷ h) t =
     let g = event_step rs s inv below e t.0 in
     ran_more rs s e h g (ran (rs ++ read_by s e) (step s e) g.inv g.below h t.1)
+
+-- ---- the companions
+
+-- the numbers of which the costs of h make companion i
+unfoldable pub MadeBy : Search → List Event → ℕ → (ℕ → Float) → Type 0
+MadeBy s [] i f = ⊥
+MadeBy s (e ∷ h) i f = NewBy s e i f ⊎ MadeBy (step s e) h i f
+
+-- after h those that are unread are made of such numbers, or of those that Q tells
+pub ran_made : (Q : ℕ → (ℕ → Float) → Type 0) (rs : List Vertex) (s : Search) → AnyOf Q rs s → BelowBudget s → (h : List Event) → Joined s h
+    → AnyOf (λ i f. Q i f ⊎ MadeBy s h i f) (rs ++ readings_of s h) (run s h)
+unfolding run readings_of Joined MadeBy
+ran_made Q rs s any below [] t = rw append-nil (any_more rs s (λ i f q. inl q) any)
+ran_made Q rs s any below (e ∷ h) t =
+    let g = event_step_of Q rs s any below e t.0 in
+    let r = ran_made (λ i f. Q i f ⊎ NewBy s e i f) (rs ++ read_by s e) (step s e) g.inv g.below h t.1 in
+    rw append_assoc at
+    (any_more {P = λ i f. Q i f ⊎ MadeBy s (e ∷ h) i f} ((rs ++ read_by s e) ++ readings_of (step s e) h) (run (step s e) h)
+    (λ i f. ⊎_elim (λ q. ⊎_elim (λ a. inl a) (λ b. inr (inl b)) q) (λ m. inr (inr m))) r)
+
+-- they name the cost that did so
+pub made_at : (s : Search) (h : List Event) (i : ℕ) (f : ℕ → Float) → MadeBy s h i f → MadeAt s h i f
+unfolding MadeBy run
+made_at s [] i f m = absurd m
+made_at s (told c ∷ h) i f m =
+    ⊎_elim
+    (λ r. record { before = []; cost = c; since = h; splits = refl; renews = r })
+    (λ n.
+    let r = made_at (accept s c) h i f n in
+    record { before = told c ∷ r.before; cost = r.cost; since = r.since; splits = ap (λ (l : List Event). told c ∷ l) r.splits; renews = r.renews })
+    m
 
 -- ---- from the opening on
 
@@ -116,7 +150,7 @@ module _ (n : ℕ) (axes : List Axis) (rule : Option Rule) (c : Coefficients) (b
         phase = grind arith;
       }
 
-  fresh_base : Sane (fresh Multidirectional n axes rule c budget).setup → suits Multidirectional (rule_of rule) ≡ true → Multi [] (fresh Multidirectional n axes rule c budget)
+  fresh_base : Sane (fresh Multidirectional n axes rule c budget).setup → suits Multidirectional (rule_of rule) ≡ true → MultiOf NoneYet [] (fresh Multidirectional n axes rule c budget)
   unfolding fresh
   fresh_base sane suited =
       record {
@@ -132,7 +166,7 @@ module _ (n : ℕ) (axes : List Axis) (rule : Option Rule) (c : Coefficients) (b
       }
 
   -- the opened search of either method
-  pub fresh_any : (m : Method) → Sane (fresh m n axes rule c budget).setup → suits m (rule_of rule) ≡ true → Any [] (fresh m n axes rule c budget)
+  pub fresh_any : (m : Method) → Sane (fresh m n axes rule c budget).setup → suits m (rule_of rule) ≡ true → AnyOf NoneYet [] (fresh m n axes rule c budget)
   fresh_any NelderMead sane suited = inl (fresh_simplex sane)
   fresh_any Multidirectional sane suited = inr (fresh_base sane suited)
 

@@ -3,7 +3,6 @@ use mathlib.Core.Path.{◌≡◌, refl, sym, ◌∙◌}
 use mathlib.Core.Bool.{Bool, false, cond}
 use mathlib.Core.List.Memᴰ
 use mathlib.Core.List.{List, [], ◌∷◌, map}
-use mathlib.Core.Logic.{inl}
 use Prim.Native.Nat.{ℕ, zero, suc, ◌+◌, ◌≤◌, ◌<◌}
 use native.Mathlib.Omega.{arith}
 use lib.ListN.{length, get_or, take}
@@ -39,7 +38,6 @@ use Rattle.rules.proofs.Laws.Finishing.{pieces_by}
 use Rattle.rules.proofs.Steps.Invariant.{Known, Leads, Noted, Stands, Gathers, Equation, Undirected, Idle, At, Inv}
 use Rattle.rules.proofs.Steps.Noting.{◌▹◌, NotedWith}
 use Rattle.rules.proofs.Steps.Counting.{Counted, counted_by, readings_in, closes, equation_told, undirected_told}
-use Rattle.rules.proofs.Steps.Grouped.{Any}
 
 -- ---- one reading
 
@@ -61,10 +59,10 @@ NoRound p = Unit {0}
 abbrev pub BelowBudget : Search → Type 0
 BelowBudget s = is_ended s.phase ≡ false → s.readings < s.setup.budget
 
--- s takes a reading and becomes u: rs are its readings then, ps the pieces finished, probe and direct tell whether it was a probe or told in a
--- multidirectional iteration
-pub record TakesReading (rs : List Vertex) (ps : List Piece) (probe direct : ℕ) (s u : Search) : Type 0 where
-  pub inv : Any rs u
+-- s takes a reading and becomes u: I is the invariant, rs are its readings then, ps the pieces finished, probe and direct tell whether it was a
+-- probe or told in a multidirectional iteration
+pub record TakesReading (I : List Vertex → Search → Type 0) (rs : List Vertex) (ps : List Piece) (probe direct : ℕ) (s u : Search) : Type 0 where
+  pub inv : I rs u
   pub below : BelowBudget u
   pub kept : u.setup ≡ s.setup
   pub method : u.method ≡ s.method
@@ -77,7 +75,24 @@ pub record TakesReading (rs : List Vertex) (ps : List Piece) (probe direct : ℕ
 
 -- the reading v is taken as the decision d says
 abbrev pub Goes : List Vertex → Vertex → Search → Decision → Type 0
-Goes rs v s d = TakesReading (rs ▹ v) (pieces_by d) (is_probe s.phase) (is_directed s.phase) s (acted d v s)
+Goes rs v s d = TakesReading Inv (rs ▹ v) (pieces_by d) (is_probe s.phase) (is_directed s.phase) s (acted d v s)
+
+-- it is taken in an invariant that says less
+pub takes_more : {I J : List Vertex → Search → Type 0} (rs : List Vertex) (ps : List Piece) (probe direct : ℕ) (s u : Search) → (I rs u → J rs u)
+    → TakesReading I rs ps probe direct s u → TakesReading J rs ps probe direct s u
+takes_more rs ps probe direct s u h g =
+    record {
+      inv = h g.inv;
+      below = g.below;
+      kept = g.kept;
+      method = g.method;
+      counts = g.counts;
+      unfinished = g.unfinished;
+      falls = g.falls;
+      first = g.first;
+      base = g.base;
+      no_round = g.no_round;
+    }
 
 -- ---- the places hold the vertices that the invariant names
 
@@ -158,8 +173,7 @@ step rs v s d next nm e after h =
     let P : Phase → Type 0 = λ p. At p s.setup h.vs h.gs (s.readings + 1) c best in
     record {
       inv =
-          inl
-          (record {
+          record {
             method = nm;
             vs = h.vs;
             gs = h.gs;
@@ -169,7 +183,7 @@ step rs v s d next nm e after h =
             equation = h.equation;
             undirected = h.undirected;
             phase = rw e (spent_elim P (is_spent s) next (λ q l. grind (arith, nat_tests)) h.phase);
-          });
+          };
       below = rw e (λ l. grind (arith, nat_tests, spent_ends (is_spent s) next l, after.below));
       kept = refl;
       method = refl;

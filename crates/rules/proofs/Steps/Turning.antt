@@ -4,7 +4,7 @@ use mathlib.Core.Path.{◌≡◌, refl, sym, ap, ◌∙◌, subst}
 use mathlib.Core.Bool.{Bool, true, false, true≢false, cond}
 use mathlib.Core.List.Memᴰ
 use mathlib.Core.List.{List, [], ◌∷◌, ◌++◌, Memᴰ}
-use mathlib.Core.Logic.{inl, inr, ⊎_elim, ⊎_map}
+use mathlib.Core.Logic.{◌⊎◌, inl, inr, ⊎_elim, ⊎_map}
 use Prim.Native.Nat.{ℕ, ◌+◌, ◌-◌, ◌*◌, ◌≤◌, ◌<◌}
 use native.Mathlib.Omega.{arith}
 use lib.ListN.{length, get_or, length-append}
@@ -22,6 +22,7 @@ use Rattle.rules.specs.Accept.{entrant, gathered_of, standing_after, gathered_af
 use Rattle.rules.specs.Calls.{standing_of}
 use Rattle.rules.specs.Stop.{total}
 use Rattle.rules.specs.Tally.{count_of, is_open}
+use Rattle.rules.specs.Claims.{Renews}
 use Rattle.rules.specs.declared.Method.{Method}
 use Rattle.rules.specs.declared.Method.TheVariants.{NelderMead, Multidirectional}
 use Rattle.rules.specs.declared.Vertex.{Vertex}
@@ -47,10 +48,10 @@ use Rattle.rules.proofs.Laws.Places.{Whole, place_pack, number_pack}
 use Rattle.rules.proofs.Laws.Grouping.{length_group, get_or_group, whole_group, get_or_stops, found_next}
 use Rattle.rules.proofs.Laws.Finishing.{pieces_by}
 use Rattle.rules.proofs.Steps.Invariant.{Gathers, Noted}
-use Rattle.rules.proofs.Steps.Grouped.{Companion, Grouped, Directed, AtMirror, AtCheck, AtProbe, AtMulti, Multi}
+use Rattle.rules.proofs.Steps.Grouped.{Companion, Grouped, Directed, AtMirror, AtCheck, AtProbe, AtMulti, MultiOf, unread_more, grouped_more}
 use Rattle.rules.proofs.Steps.Noting.{◌▹◌, NotedWith, best_mem, known_more, known_new, best_falls, best_stays}
 use Rattle.rules.proofs.Steps.Counting.{counted_by, count_by, told_count}
-use Rattle.rules.proofs.Steps.Stepping.{NoRound, Goes, whole, places_are, others_in}
+use Rattle.rules.proofs.Steps.Stepping.{NoRound, TakesReading, whole, places_are, others_in}
 
 -- ---- the counts
 
@@ -79,12 +80,13 @@ directed_counted n k c h l =
 
 -- ---- base and companions as they stand
 
--- a companion is known after a reading more
-companion_more : (rs : List Vertex) (t : Setup) (c v : Vertex) (stops : ℕ) → Companion rs t c stops → Companion (rs ▹ v) t c stops
-companion_more rs t c v stops h = ⊎_map (λ m. Memᴰ.append_left (v ∷ []) m) (λ u. u) h
+-- a companion is one after a reading more
+companion_more : {Q P : (ℕ → Float) → Type 0} (rs : List Vertex) (t : Setup) (c v : Vertex) (stops : ℕ) → ((f : ℕ → Float) → Q f → P f)
+    → Companion Q rs t c stops → Companion P (rs ▹ v) t c stops
+companion_more rs t c v stops more h = ⊎_map (λ m. Memᴰ.append_left (v ∷ []) m) (λ u. unread_more t c stops more u) h
 
 -- its point has eight numbers
-companion_eight : (rs : List Vertex) (t : Setup) (k : ℕ) (b c : Vertex) (stops : ℕ) → Noted rs t k b → Companion rs t c stops → length c.point ≡ 8
+companion_eight : {Q : (ℕ → Float) → Type 0} (rs : List Vertex) (t : Setup) (k : ℕ) (b c : Vertex) (stops : ℕ) → Noted rs t k b → Companion Q rs t c stops → length c.point ≡ 8
 companion_eight rs t k b c stops h g =
     ⊎_elim
     (λ m. (h.shapes c m).eight)
@@ -105,11 +107,12 @@ gathers_nothing (Probing p) t gs ns k c h = refl
 gathers_nothing (Ended cause) t gs ns k c h = refl
 gathers_nothing p t gs ns k c h = absurd h
 
-pub none_gathered_yet : (rs : List Vertex) (s : Search) → Multi rs s → gathered_of s ≡ []
+pub none_gathered_yet : {Q : ℕ → (ℕ → Float) → Type 0} (rs : List Vertex) (s : Search) → MultiOf Q rs s → gathered_of s ≡ []
 unfolding unpack up_to
 none_gathered_yet rs s inv = rw (gathers_nothing s.phase s.setup inv.gs s.standing.numbers s.readings s.counts inv.phase) refl
 
-module _ {rs : List Vertex} {t : Setup} {k : ℕ} {b : Vertex} {stops : List ℕ} {standing : Simplex} (noted : Noted rs t k b) (some : 1 ≤ k) (g : Grouped rs t b stops standing) where
+module _ {Q : ℕ → (ℕ → Float) → Type 0} {rs : List Vertex} {t : Setup} {k : ℕ} {b : Vertex} {stops : List ℕ} {standing : Simplex} (noted : Noted rs t k b) (some : 1 ≤ k)
+    (g : Grouped Q rs t b stops standing) where
   abbrev all : List Vertex
   all = group b g.f t.n
 
@@ -128,14 +131,22 @@ module _ {rs : List Vertex} {t : Setup} {k : ℕ} {b : Vertex} {stops : List ℕ
   companion_at i l h =
       ap (λ (x : Simplex). place x i) g.are ∙ place_pack all i whole_all (omega (arith, length_group b g.f t.n)) ∙ get_or_group b g.f t.n i l h
 
-module _ (rs : List Vertex) (v : Vertex) (s : Search) (inv : Multi rs s) (after : NotedWith v rs s) (live : is_ended s.phase ≡ false) where
+module _ (Q : ℕ → (ℕ → Float) → Type 0) (rs : List Vertex) (v : Vertex) (s : Search) (inv : MultiOf Q rs s) (after : NotedWith v rs s) (live : is_ended s.phase ≡ false) where
+  -- the numbers of which companions may be made then: those of before, and those that the decision makes them of
+  abbrev Then : Decision → ℕ → (ℕ → Float) → Type 0
+  Then d i f = Q i f ⊎ Renews d v s i f
+
+  -- the reading v is taken as the decision d says
+  abbrev pub Takes : Decision → Type 0
+  Takes d = TakesReading (MultiOf (Then d)) (rs ▹ v) (pieces_by d) (is_probe s.phase) (is_directed s.phase) s (acted d v s)
+
   -- ---- any decision
 
   -- the parts that the decision d leaves, each with its fact: next is the phase but for the budget
   record Leaves (d : Decision) (next : Phase) : Type 0 where
     pub gs : List Vertex
     pub gathers : Gathers (rs ▹ v) gs (gathered_after d (entrant d v s) s)
-    pub grouped : Grouped (rs ▹ v) s.setup (best_after s.readings v s.best) (stops_after d (entrant d v s) s) (standing_after d (entrant d v s) s)
+    pub grouped : Grouped (Then d) (rs ▹ v) s.setup (best_after s.readings v s.best) (stops_after d (entrant d v s) s) (standing_after d (entrant d v s) s)
     pub counts : Directed s.setup.n (s.readings + 1) (counts_after d s)
     pub phase : AtMulti next s.setup gs (standing_after d (entrant d v s) s).numbers (s.readings + 1) (counts_after d s)
     pub closed : is_open (pieces_by d) (is_probe s.phase + is_directed s.phase) s.readings ≡ false
@@ -143,7 +154,7 @@ module _ (rs : List Vertex) (v : Vertex) (s : Search) (inv : Multi rs s) (after 
     pub no_round : is_probe s.phase ≡ 0 → NoRound next
 
   -- they make the step; the budget is tested here and nowhere else
-  turn : (d : Decision) (next : Phase) → (acted d v s).phase ≡ spent_phase (is_spent s) next → Leaves d next → Goes rs v s d
+  turn : (d : Decision) (next : Phase) → (acted d v s).phase ≡ spent_phase (is_spent s) next → Leaves d next → Takes d
   unfolding total
   turn d next e h =
       let c = counts_after d s in
@@ -152,8 +163,7 @@ module _ (rs : List Vertex) (v : Vertex) (s : Search) (inv : Multi rs s) (after 
       let none : standing_of u ≡ [] = none_stands u inv.method in
       record {
         inv =
-            inr
-            (record {
+            record {
               method = inv.method;
               rule = inv.rule;
               gs = h.gs;
@@ -163,7 +173,7 @@ module _ (rs : List Vertex) (v : Vertex) (s : Search) (inv : Multi rs s) (after 
               grouped = λ l. h.grouped;
               counts = h.counts;
               phase = rw e (spent_elim P (is_spent s) next (λ q l. grind (arith, nat_tests)) h.phase);
-            });
+            };
         below = rw e (λ l. grind (arith, nat_tests, spent_ends (is_spent s) next l, after.below));
         kept = refl;
         method = refl;
@@ -179,13 +189,13 @@ module _ (rs : List Vertex) (v : Vertex) (s : Search) (inv : Multi rs s) (after 
 
   -- companions as a change makes them, around the best
   regrouped : (c : Change) → best_after s.readings v s.best ≡ base_after c v s
-      → ((i : ℕ) → 1 ≤ i → i ≤ s.setup.n → Companion (rs ▹ v) s.setup (companion_after c v s i) (stop_after c v s i))
-      → Grouped (rs ▹ v) s.setup (best_after s.readings v s.best) (stops_after (Regroup c) v s) (standing_after (Regroup c) v s)
+      → ((i : ℕ) → 1 ≤ i → i ≤ s.setup.n → Companion (Then (Regroup c) i) (rs ▹ v) s.setup (companion_after c v s i) (stop_after c v s i))
+      → Grouped (Then (Regroup c)) (rs ▹ v) s.setup (best_after s.readings v s.best) (stops_after (Regroup c) v s) (standing_after (Regroup c) v s)
   regrouped c e each =
       record {
         f = companion_after c v s;
         are = rw e refl;
-        each = λ i l h. subst (λ (k : ℕ). Companion (rs ▹ v) s.setup (companion_after c v s i) k) (sym (get_or_stops (stop_after c v s) s.setup.n i l h)) (each i l h);
+        each = λ i l h. subst (λ (k : ℕ). Companion (Then (Regroup c) i) (rs ▹ v) s.setup (companion_after c v s i) k) (sym (get_or_stops (stop_after c v s) s.setup.n i l h)) (each i l h);
       }
 
   -- nothing is gathered then
@@ -193,8 +203,8 @@ module _ (rs : List Vertex) (v : Vertex) (s : Search) (inv : Multi rs s) (after 
   none_gathered = record { are = refl; known = λ w m. absurd (Memᴰ.not-nil m) }
 
   -- a companion that is made is unread
-  is_unread : (f : ℕ → Float) → Companion (rs ▹ v) s.setup (unread_at (made s.setup s.setup.n f)) (made s.setup s.setup.n f).stops
-  is_unread f = inr (record { f = f; are = refl; count = refl })
+  is_unread : {P : (ℕ → Float) → Type 0} (f : ℕ → Float) → P f → Companion P (rs ▹ v) s.setup (unread_at (made s.setup s.setup.n f)) (made s.setup s.setup.n f).stops
+  is_unread f o = inr (record { f = f; origin = o; are = refl; count = refl })
 
   -- the phase after it opens an iteration, or a probe round
   opened : (met : Bool) → spent_phase (is_spent s) (tested_phase met s.method) ≡ spent_phase (is_spent s) (cond met (Probing 0) (Mirroring 1))
@@ -203,14 +213,14 @@ module _ (rs : List Vertex) (v : Vertex) (s : Search) (inv : Multi rs s) (after 
   -- companions are built around the reading, which is the best
   builds : best_after s.readings v s.best ≡ v → Directed s.setup.n (s.readings + 1) (told_in s.phase s.counts)
       → (told_in s.phase s.counts).directed ≤ 2 * s.setup.n * s.counts.patterns → is_open [] (is_probe s.phase + is_directed s.phase) s.readings ≡ false
-      → Goes rs v s (Regroup Built)
+      → Takes (Regroup Built)
   unfolding count_of
   builds e counts few closed =
       turn (Regroup Built) (Mirroring 1) (opened false)
       (record {
         gs = [];
         gathers = none_gathered;
-        grouped = regrouped Built e (λ i l h. is_unread (λ (a : ℕ). build_step (axis s.setup a) (get_or v.point a nan) i a));
+        grouped = regrouped Built e (λ i l h. is_unread (λ (a : ℕ). build_step (axis s.setup a) (get_or v.point a nan) i a) (inr (λ a. refl)));
         counts = counts;
         phase = record { low = omega arith; high = after.sane.at_least; many = refl; some = omega arith; told = omega arith };
         closed = closed;
@@ -240,9 +250,9 @@ module _ (rs : List Vertex) (v : Vertex) (s : Search) (inv : Multi rs s) (after 
     -- it goes on
     goes_on : (keeping : Keeping) (next : Phase) (gs : List Vertex)
         → Gathers (rs ▹ v) gs (gathered_after (Go keeping next) v s)
-        → Grouped (rs ▹ v) s.setup (best_after s.readings v s.best) s.stops (standing_after (Go keeping next) v s)
+        → Grouped (Then (Go keeping next)) (rs ▹ v) s.setup (best_after s.readings v s.best) s.stops (standing_after (Go keeping next) v s)
         → AtMulti next s.setup gs (standing_after (Go keeping next) v s).numbers (s.readings + 1) (told_in s.phase s.counts) → NoRound next
-        → Goes rs v s (Go keeping next)
+        → Takes (Go keeping next)
     unfolding count_of
     goes_on keeping next gs gathers grouped here none =
         turn (Go keeping next) next refl
@@ -250,8 +260,8 @@ module _ (rs : List Vertex) (v : Vertex) (s : Search) (inv : Multi rs s) (after 
 
     -- it ends, as this change has it
     ends : (c : Change) → completed c ≡ Some Pattern → best_after s.readings v s.best ≡ base_after c v s
-        → ((i : ℕ) → 1 ≤ i → i ≤ s.setup.n → Companion (rs ▹ v) s.setup (companion_after c v s i) (stop_after c v s i))
-        → Goes rs v s (Regroup c)
+        → ((i : ℕ) → 1 ≤ i → i ≤ s.setup.n → Companion (Then (Regroup c) i) (rs ▹ v) s.setup (companion_after c v s i) (stop_after c v s i))
+        → Takes (Regroup c)
     unfolding count_of
     ends c e best each =
         let met = is_met (Regroup c) v s in
@@ -280,7 +290,7 @@ module _ (rs : List Vertex) (v : Vertex) (s : Search) (inv : Multi rs s) (after 
   -- ---- the base
 
   -- the first reading of all is the base
-  pub base_step : s.phase ≡ Basing → s.readings ≡ 0 → Goes rs v s (decided Basing s v.cost)
+  pub base_step : s.phase ≡ Basing → s.readings ≡ 0 → Takes (decided Basing s v.cost)
   unfolding decided
   base_step now first =
       let h = inv.counts in
@@ -302,48 +312,49 @@ module _ (rs : List Vertex) (v : Vertex) (s : Search) (inv : Multi rs s) (after 
     stays = best_stays s.readings v s.best some higher
 
     -- as they stood
-    stand_on : Grouped (rs ▹ v) s.setup (best_after s.readings v s.best) s.stops s.standing
-    stand_on =
+    stand_on : {P : ℕ → (ℕ → Float) → Type 0} → ((i : ℕ) (f : ℕ → Float) → Q i f → P i f) → Grouped P (rs ▹ v) s.setup (best_after s.readings v s.best) s.stops s.standing
+    stand_on more =
         let g = inv.grouped some in
-        rw stays (record { f = g.f; are = g.are; each = λ i l h. companion_more rs s.setup (g.f i) v (get_or s.stops i 0) (g.each i l h) })
+        rw stays (record { f = g.f; are = g.are; each = λ i l h. companion_more rs s.setup (g.f i) v (get_or s.stops i 0) (more i) (g.each i l h) })
 
     -- with companion i read
-    stand_read : (i : ℕ) → Grouped (rs ▹ v) s.setup (best_after s.readings v s.best) s.stops (pack (group_read i v s))
-    stand_read i =
+    stand_read : {P : ℕ → (ℕ → Float) → Type 0} → ((i : ℕ) (f : ℕ → Float) → Q i f → P i f) → (i : ℕ)
+        → Grouped P (rs ▹ v) s.setup (best_after s.readings v s.best) s.stops (pack (group_read i v s))
+    stand_read {P} more i =
         let g = inv.grouped some in
         let first = base_at inv.noted some g in
         let f : ℕ → Vertex = λ k. cond (eqb k i) v (place s.standing k) in
-        let each : (k : ℕ) → 1 ≤ k → k ≤ s.setup.n → Companion (rs ▹ v) s.setup (f k) (get_or s.stops k 0) =
+        let each : (k : ℕ) → 1 ≤ k → k ≤ s.setup.n → Companion (P k) (rs ▹ v) s.setup (f k) (get_or s.stops k 0) =
         λ k l h.
-        cond_both (eqb k i) v (place s.standing k) (λ (c : Vertex). Companion (rs ▹ v) s.setup c (get_or s.stops k 0))
+        cond_both (eqb k i) v (place s.standing k) (λ (c : Vertex). Companion (P k) (rs ▹ v) s.setup c (get_or s.stops k 0))
         (λ e. inl (known_new rs v))
         (λ e.
-        subst (λ (c : Vertex). Companion (rs ▹ v) s.setup c (get_or s.stops k 0)) (sym (companion_at inv.noted some g k l h))
-        (companion_more rs s.setup (g.f k) v (get_or s.stops k 0) (g.each k l h))) in
+        subst (λ (c : Vertex). Companion (P k) (rs ▹ v) s.setup c (get_or s.stops k 0)) (sym (companion_at inv.noted some g k l h))
+        (companion_more rs s.setup (g.f k) v (get_or s.stops k 0) (more k) (g.each k l h))) in
         rw (stays, first) (record { f = f; are = refl; each = each })
 
   -- m readings of this iteration were told before, and none of them and not this one was lower
   module _ (m : ℕ) (turns : view s.phase ≡ Turns) (some : 1 ≤ s.readings) (told : s.counts.directed ≤ 2 * s.setup.n * s.counts.patterns + m) (fits : m < 2 * s.setup.n) (higher : s.best.cost ≤ v.cost) where
     -- the companions are halved
-    halves : Goes rs v s (Regroup Halved)
+    halves : Takes (Regroup Halved)
     halves =
         ends m turns some told fits Halved refl
         (stays some higher ∙ sym (base_at inv.noted some (inv.grouped some)))
-        (λ i l h. is_unread (halfway s.standing.points i))
+        (λ i l h. is_unread (halfway s.standing.points i) (inr (λ a. refl)))
 
     -- the first unread companion from the i-th on is asked, i readings of companions being told at most
     checks : (i : ℕ) (keeping : Keeping) (gs : List Vertex) → 1 ≤ i → m + 1 ≤ s.setup.n + (i - 1)
         → Gathers (rs ▹ v) gs (gathered_after (Go keeping Basing) v s)
-        → Grouped (rs ▹ v) s.setup (best_after s.readings v s.best) s.stops (standing_after (Go keeping Basing) v s)
+        → Grouped Q (rs ▹ v) s.setup (best_after s.readings v s.best) s.stops (standing_after (Go keeping Basing) v s)
         → ((j : ℕ) → i ≤ j → j ≤ s.setup.n → get_or (standing_after (Go keeping Basing) v s).numbers j 0 ≡ get_or s.standing.numbers j 0)
-        → Goes rs v s (checks_from i keeping s)
+        → Takes (checks_from i keeping s)
     checks i keeping gs low fit gathers grouped same =
         let j = next_unread s.setup.n s.standing.numbers i in
         let r = found_next s.setup.n i s.standing.numbers in
-        cond_both (leb j s.setup.n) _ _ (Goes rs v s)
+        cond_both (leb j s.setup.n) _ _ Takes
         (λ e.
         let high : j ≤ s.setup.n = grind (arith, nat_tests) in
-        goes_on m turns some told fits keeping (Checking j) gs gathers grouped
+        goes_on m turns some told fits keeping (Checking j) gs gathers (grouped_more (rs ▹ v) s.setup (best_after s.readings v s.best) s.stops (standing_after (Go keeping Basing) v s) (λ i f q. inl q) grouped)
         (record { low = omega (arith, r.from); high = high; unread = same j r.from high ∙ r.unread (omega arith); some = omega arith; told = omega (arith, r.from, one m turns some told fits) }) tt)
         (λ e. halves)
 
@@ -379,10 +390,10 @@ module _ (rs : List Vertex) (v : Vertex) (s : Search) (inv : Multi rs s) (after 
         Memᴰ.append_left (v ∷ []) (Memᴰ.cast at (inv.gathers.known (get_or inv.gs (k - 1) blank) (mem_get_or inv.gs (k - 1) blank low)))
 
     -- a lower one swaps with the base, and the reflections become the companions
-    mirrored_each : (k : ℕ) → 1 ≤ k → k ≤ s.setup.n → Companion (rs ▹ v) s.setup (companion_after (Mirrored i) v s k) (stop_after (Mirrored i) v s k)
+    mirrored_each : (k : ℕ) → 1 ≤ k → k ≤ s.setup.n → Companion (Then (Regroup (Mirrored i)) k) (rs ▹ v) s.setup (companion_after (Mirrored i) v s k) (stop_after (Mirrored i) v s k)
     mirrored_each k l m =
         let stops = stop_after (Mirrored i) v s k in
-        let C : Vertex → Type 0 = λ c. Companion (rs ▹ v) s.setup c stops in
+        let C : Vertex → Type 0 = λ c. Companion (Then (Regroup (Mirrored i)) k) (rs ▹ v) s.setup c stops in
         cond_both (eqb k i) _ _ C
         (λ e. inl (base_read h.some))
         (λ e.
@@ -390,26 +401,27 @@ module _ (rs : List Vertex) (v : Vertex) (s : Search) (inv : Multi rs s) (after 
         (λ d. inl (told_before k l (grind (arith, nat_tests))))
         (λ d.
         let after_i : ltb i k ≡ true = grind (arith, nat_tests) in
-        subst (λ (c : ℕ). Companion (rs ▹ v) s.setup (unread_at (reflection s k)) c) (rw after_i refl) (is_unread (target s (Mirroring k)))))
+        subst (λ (c : ℕ). Companion (Then (Regroup (Mirrored i)) k) (rs ▹ v) s.setup (unread_at (reflection s k)) c) (rw after_i refl)
+        (is_unread (target s (Mirroring k)) (inr (grind (arith, nat_tests), λ a. refl)))))
 
     -- it is lower, or the next one, or a companion is asked
-    pub mirror_step : Goes rs v s (decided (Mirroring i) s v.cost)
+    pub mirror_step : Takes (decided (Mirroring i) s v.cost)
     unfolding decided
     mirror_step =
         let cost = base_cost h.some in
         let m = i - 1 in
         let fits : m < 2 * s.setup.n = omega (arith, h.low, h.high) in
-        cond_both (lower v.cost s) _ _ (Goes rs v s)
+        cond_both (lower v.cost s) _ _ Takes
         (λ e.
         let falls : v.cost < s.best.cost = grind (arith, nat_tests) in
         ends m turns_mirror h.some h.told fits (Mirrored i) refl (best_falls s.readings v s.best h.some falls) mirrored_each)
         (λ e.
         let higher : s.best.cost ≤ v.cost = grind (arith, nat_tests) in
-        cond_both (is_last i s) _ _ (Goes rs v s)
-        (λ d. checks m turns_mirror h.some h.told fits higher 1 (Told i) (inv.gs ++ v ∷ []) (omega arith) (grind (arith, nat_tests)) gathers_told (stand_on h.some higher) (λ j a b. refl))
+        cond_both (is_last i s) _ _ Takes
+        (λ d. checks m turns_mirror h.some h.told fits higher 1 (Told i) (inv.gs ++ v ∷ []) (omega arith) (grind (arith, nat_tests)) gathers_told (stand_on h.some higher (λ k f q. q)) (λ j a b. refl))
         (λ d.
         let high : i < s.setup.n = grind (arith, nat_tests, h.high) in
-        goes_on m turns_mirror h.some h.told fits (Told i) (Mirroring (i + 1)) (inv.gs ++ v ∷ []) gathers_told (stand_on h.some higher)
+        goes_on m turns_mirror h.some h.told fits (Told i) (Mirroring (i + 1)) (inv.gs ++ v ∷ []) gathers_told (stand_on h.some higher (λ k f q. inl q))
         (record {
           low = omega arith;
           high = omega arith;
@@ -425,15 +437,15 @@ module _ (rs : List Vertex) (v : Vertex) (s : Search) (inv : Multi rs s) (after 
     turns_check = rw now refl
 
     -- a lower one swaps with the base; the others stay, read or unread
-    swapped_each : (k : ℕ) → 1 ≤ k → k ≤ s.setup.n → Companion (rs ▹ v) s.setup (companion_after (Swapped i) v s k) (stop_after (Swapped i) v s k)
+    swapped_each : (k : ℕ) → 1 ≤ k → k ≤ s.setup.n → Companion (Then (Regroup (Swapped i)) k) (rs ▹ v) s.setup (companion_after (Swapped i) v s k) (stop_after (Swapped i) v s k)
     swapped_each k l m =
         let g = inv.grouped h.some in
         ⊎_elim
         (λ e. rw e (inl (base_read h.some)))
         (λ e.
         rw e
-        (subst (λ (c : Vertex). Companion (rs ▹ v) s.setup c (get_or s.stops k 0)) (sym (companion_at inv.noted h.some g k l m))
-        (companion_more rs s.setup (g.f k) v (get_or s.stops k 0) (g.each k l m))))
+        (subst (λ (c : Vertex). Companion (Then (Regroup (Swapped i)) k) (rs ▹ v) s.setup c (get_or s.stops k 0)) (sym (companion_at inv.noted h.some g k l m))
+        (companion_more rs s.setup (g.f k) v (get_or s.stops k 0) (λ f q. inl q) (g.each k l m))))
         (cases_Bool (eqb k i))
 
     -- the reading stands at its place, and the places after it are as they were
@@ -444,20 +456,20 @@ module _ (rs : List Vertex) (v : Vertex) (s : Search) (inv : Multi rs s) (after 
         number_pack (group_read i v s) j ∙ ap number_in (get_or_group (base s) f s.setup.n j (omega arith) m) ∙ rw other refl
 
     -- it is lower, or the next one is asked, or all are halved
-    pub check_step : Goes rs v s (decided (Checking i) s v.cost)
+    pub check_step : Takes (decided (Checking i) s v.cost)
     unfolding decided
     check_step =
         let cost = base_cost h.some in
         let m = s.setup.n + (i - 1) in
         let fits : m < 2 * s.setup.n = omega (arith, h.low, h.high) in
         let same_gathered : Gathers (rs ▹ v) inv.gs s.gathered = record { are = inv.gathers.are; known = known_more inv.gs rs v inv.gathers.known } in
-        cond_both (lower v.cost s) _ _ (Goes rs v s)
+        cond_both (lower v.cost s) _ _ Takes
         (λ e.
         let falls : v.cost < s.best.cost = grind (arith, nat_tests) in
         ends m turns_check h.some h.told fits (Swapped i) refl (best_falls s.readings v s.best h.some falls) swapped_each)
         (λ e.
         let higher : s.best.cost ≤ v.cost = grind (arith, nat_tests) in
-        checks m turns_check h.some h.told fits higher (i + 1) (Read i) inv.gs (omega arith) (omega (arith, h.low)) same_gathered (stand_read h.some higher i) same_after)
+        checks m turns_check h.some h.told fits higher (i + 1) (Read i) inv.gs (omega arith) (omega (arith, h.low)) same_gathered (stand_read h.some higher (λ k f q. q) i) same_after)
 
   -- ---- a probe
 
@@ -473,14 +485,14 @@ module _ (rs : List Vertex) (v : Vertex) (s : Search) (inv : Multi rs s) (after 
     apart_probe = rw now refl
 
     -- the round goes on, or has settled the search
-    misses : (next : Phase) → s.best.cost ≤ v.cost → AtMulti next s.setup inv.gs s.standing.numbers (s.readings + 1) (told_in s.phase s.counts) → Goes rs v s (Go Nothing next)
+    misses : (next : Phase) → s.best.cost ≤ v.cost → AtMulti next s.setup inv.gs s.standing.numbers (s.readings + 1) (told_in s.phase s.counts) → Takes (Go Nothing next)
     unfolding count_of
     misses next higher here =
         turn (Go Nothing next) next refl
         (record {
           gs = inv.gs;
           gathers = record { are = inv.gathers.are; known = known_more inv.gs rs v inv.gathers.known };
-          grouped = stand_on h.some higher;
+          grouped = stand_on h.some higher (λ k f q. inl q);
           counts = counted_probe;
           phase = here;
           closed = apart_probe;
@@ -489,23 +501,23 @@ module _ (rs : List Vertex) (v : Vertex) (s : Search) (inv : Multi rs s) (after 
         })
 
     -- a lower one is the base of new companions; another leads to the next one, or settles the search
-    pub multi_probe_step : Goes rs v s (decided (Probing p) s v.cost)
+    pub multi_probe_step : Takes (decided (Probing p) s v.cost)
     unfolding decided
     multi_probe_step =
-        cond_both (ends_round v.cost s) _ _ (Goes rs v s)
+        cond_both (ends_round v.cost s) _ _ Takes
         (λ e.
         let falls : v.cost < s.best.cost = grind (arith, nat_tests) in
-        subst (λ (m : Method). Goes rs v s (restart m)) (sym inv.method) (builds (best_falls s.readings v s.best h.some falls) counted_probe still_told apart_probe))
+        subst (λ (m : Method). Takes (restart m)) (sym inv.method) (builds (best_falls s.readings v s.best h.some falls) counted_probe still_told apart_probe))
         (λ e.
         let higher : s.best.cost ≤ v.cost = grind (arith, nat_tests) in
-        cond_both (is_full p s) _ _ (Goes rs v s)
+        cond_both (is_full p s) _ _ Takes
         (λ d. misses (Ended Settled) higher tt)
         (λ d. misses (Probing (p + 1)) higher (record { low = grind (arith, nat_tests, h.low); some = omega arith; told = omega (arith, still_told) })))
 
   -- ---- every phase
 
   -- the reading goes as the decision of its phase says
-  pub turn_step : (p : Phase) → s.phase ≡ p → AtMulti p s.setup inv.gs s.standing.numbers s.readings s.counts → Goes rs v s (decided p s v.cost)
+  pub turn_step : (p : Phase) → s.phase ≡ p → AtMulti p s.setup inv.gs s.standing.numbers s.readings s.counts → Takes (decided p s v.cost)
   turn_step Basing now h = base_step now h
   turn_step (Mirroring i) now h = mirror_step i now h
   turn_step (Checking i) now h = check_step i now h
