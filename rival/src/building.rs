@@ -1,7 +1,7 @@
 //! The first build and the build of a restart.
 
 use crate::search::{Phase, Search};
-use crate::types::{Brought, Vertex};
+use crate::types::{Brought, Method, Vertex};
 
 impl Search {
     /// The trial of a build that has so many vertices: its center, then that point with axis i changed.
@@ -40,8 +40,16 @@ impl Search {
         }
     }
 
-    /// Starts a restart around a reading, whose cost is already known.
+    /// Starts a restart around a reading, whose cost is already known, as the method does.
     pub(crate) fn restart(&mut self, known: &Vertex) {
+        match self.method {
+            Method::NelderMead => self.restart_build(known),
+            Method::Multidirectional => self.build_around(known),
+        }
+    }
+
+    /// Starts a build around a vertex that is known.
+    fn restart_build(&mut self, known: &Vertex) {
         self.center = known.point;
         self.gather_first(known);
         self.phase = Phase::Building;

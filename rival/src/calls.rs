@@ -81,6 +81,9 @@ impl Search {
             Phase::Shrinking => self.tell_shrunk(reading),
             Phase::Probing(told) => self.tell_probe(told, reading, lower),
             Phase::Ended(_) => {}
+            Phase::Base => self.build_around(reading),
+            Phase::Reflection(i) => self.tell_reflection(i, reading),
+            Phase::Companion(i) => self.tell_companion(i, reading),
         }
     }
 

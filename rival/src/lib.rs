@@ -1,4 +1,4 @@
-//! A Nelder-Mead search engine that proposes trials and takes readings, written from documents 01 and 02 alone.
+//! A search engine, Nelder-Mead or multidirectional, that proposes trials and takes readings, written from documents 01 and 02 alone.
 #![forbid(unsafe_code)]
 #![warn(missing_docs)]
 
@@ -7,6 +7,7 @@ mod calls;
 mod damage;
 mod iteration;
 mod moves;
+mod multidirectional;
 mod opening;
 mod parts;
 mod probing;
@@ -19,7 +20,7 @@ pub mod tune;
 mod types;
 
 pub use search::Search;
-pub use types::{Axis, Coefficients, Refusal, Rule, Trial, Vertex};
+pub use types::{Axis, Coefficients, Method, Refusal, Rule, Trial, Vertex};
 
 /// The usual coefficients, under the name of the crate too.
 pub const USUAL: Coefficients = Coefficients::USUAL;

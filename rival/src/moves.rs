@@ -26,6 +26,9 @@ impl Search {
             Phase::Shrinking => self.shrunk_trial(self.vertices),
             Phase::Probing(told) => self.probe_trial(told),
             Phase::Ended(_) => Brought::ORIGIN,
+            Phase::Base => self.build_trial(0),
+            Phase::Reflection(i) => self.companion_reflected(i),
+            Phase::Companion(i) => self.companion_trial(i),
         }
     }
 

@@ -1,7 +1,7 @@
-//! Opening a search, and the refusals 1 to 7 and 13.
+//! Opening a search, and the refusals 1 to 7, 13 and 14.
 
 use crate::search::{Phase, Search};
-use crate::types::{Axis, Coefficients, Refusal, Rule, MAX_AXES, MAX_BUDGET, MAX_SPREAD};
+use crate::types::{Axis, Coefficients, Method, Refusal, Rule, MAX_AXES, MAX_BUDGET, MAX_SPREAD};
 
 /// The greatest size of an axis number, and the greatest E of moved and size.
 const MAX_NUMBER: f64 = 1_048_576.0;
@@ -10,8 +10,9 @@ const MAX_NUMBER: f64 = 1_048_576.0;
 const UNNAMED: Rule = Rule::Spread(4);
 
 impl Search {
-    /// Opens a search, or refuses by the first check that fails: in table order, and 13 just after 3.
+    /// Opens a search, or refuses by the first check that fails: in table order, 13 just after 3 and 14 after 6.
     pub fn open(
+        method: Method,
         n: u64,
         axes: &[Axis; 8],
         rule: Option<Rule>,
@@ -23,13 +24,15 @@ impl Search {
         check_axes(&axes[..count])?;
         check(coefficients_hold(&coefficients), 5)?;
         check(rule_holds(rule), 6)?;
+        check(method_takes(method, rule), 14)?;
         check((n + 1..=MAX_BUDGET).contains(&budget), 7)?;
         let mut search = Search {
+            method,
             n: count,
             rule,
             coefficients,
             budget,
-            phase: Phase::Building,
+            phase: first_asked(method),
             ..Search::closed()
         };
         search.place_start(&axes[..count]);
@@ -43,6 +46,14 @@ impl Search {
             self.center[i] = axis.start;
         }
         self.set_trial();
+    }
+}
+
+/// The phase of a search without a reading.
+fn first_asked(method: Method) -> Phase {
+    match method {
+        Method::NelderMead => Phase::Building,
+        Method::Multidirectional => Phase::Base,
     }
 }
 
@@ -118,4 +129,9 @@ fn rule_holds(rule: Rule) -> bool {
         Rule::Spread(e) => (1..=MAX_SPREAD).contains(&e),
         Rule::Moved(e) | Rule::Size(e) => 0.0 < e && e <= MAX_NUMBER,
     }
+}
+
+/// "Its stopping rule is size only": not another, nor the one that stands for none named.
+pub(crate) fn method_takes(method: Method, rule: Rule) -> bool {
+    method == Method::NelderMead || matches!(rule, Rule::Size(_))
 }

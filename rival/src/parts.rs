@@ -3,13 +3,13 @@
 use crate::search::{Cause, Phase, Search, Side};
 use crate::simplex::{Simplex, MAX_VERTICES};
 use crate::stopping::add_differences;
-use crate::types::{shown_bits, Rule, Vertex};
+use crate::types::{shown_bits, Method, Rule, Vertex};
 
-// An axis count and a number of vertices or probes may be any number of 64 bits.
+// An axis count, and a number of vertices, of probes, or of a companion, may be any number of 64 bits.
 const _: () = assert!(usize::BITS == 64);
 
 /// The words of a state line.
-const WORDS: usize = 256;
+const WORDS: usize = 268;
 
 /// A part that can be written. Counts, places and axes go by their index.
 #[derive(Clone, Copy)]
@@ -20,7 +20,7 @@ pub(crate) enum Part {
     Budget,
     /// Accepted readings.
     Readings,
-    /// One of the seven counts.
+    /// One of the nine counts.
     Count(usize),
     /// The phase of a number, with its detail.
     Phase(u64),
@@ -44,6 +44,10 @@ pub(crate) enum Part {
     BestNumber,
     /// Whether an axis is a ring.
     Ring(usize),
+    /// The method.
+    Method,
+    /// The stops at a place.
+    Stops(usize),
 }
 
 impl Part {
@@ -54,8 +58,8 @@ impl Part {
             (0, 0) => Some(Part::Axes),
             (1, 0) => Some(Part::Budget),
             (2, 0) => Some(Part::Readings),
-            (3, 1..=7) => Some(Part::Count(index)),
-            (4, 0..=8) => Some(Part::Phase(which)),
+            (3, 1..=9) => Some(Part::Count(index)),
+            (4, 0..=11) => Some(Part::Phase(which)),
             (5, 1..=9) => Some(Part::Standing(index)),
             (6, 1..=9) => Some(Part::Gathered(index)),
             (7, 0) => Some(Part::Best),
@@ -66,13 +70,16 @@ impl Part {
             (12, 1..=9) => Some(Part::GatheredNumber(index)),
             (13, 0) => Some(Part::BestNumber),
             (14, 1..=8) => Some(Part::Ring(index)),
+            (15, 0) => Some(Part::Method),
+            (16, 1..=9) => Some(Part::Stops(index)),
             _ => None,
         }
     }
 
-    /// The part that a line writes: none if it is not in the table, or if it is a ring and the value is above 1.
+    /// The part that a line writes: none if it is not in the table, or if it is a ring or the method and the value is above 1.
     pub(crate) fn written(part: u64, which: u64, value: u64) -> Option<Part> {
-        Part::numbered(part, which).filter(|part| !matches!(part, Part::Ring(_)) || value <= 1)
+        let any = |part: &Part| !matches!(part, Part::Ring(_) | Part::Method);
+        Part::numbered(part, which).filter(|part| any(part) || value <= 1)
     }
 }
 
@@ -104,6 +111,8 @@ impl Search {
             Part::GatheredNumber(index) => self.gathered.put_number(index, value),
             Part::BestNumber => self.best.number = value,
             Part::Ring(index) => self.axes[index].ring = value == 1,
+            Part::Method => self.write_method(value),
+            Part::Stops(index) => self.stops[index] = value,
         }
         self.restore();
     }
@@ -123,8 +132,18 @@ impl Search {
             5 => Phase::Shrinking,
             6 => Phase::Probing(detail as usize),
             7 => Phase::Ended(Cause::Settled),
-            _ => Phase::Ended(Cause::Budget),
+            8 => Phase::Ended(Cause::Budget),
+            9 => Phase::Base,
+            10 => Phase::Reflection(detail as usize),
+            _ => Phase::Companion(detail as usize),
         };
+    }
+
+    /// Writes the method of a number.
+    fn write_method(&mut self, number: u64) {
+        if let Some(method) = Method::numbered(number) {
+            self.method = method;
+        }
     }
 
     /// Writes the rule of a number.
@@ -163,13 +182,14 @@ impl Search {
         extend_point(&mut words, &self.center);
         extend_simplex(&mut words, &self.standing);
         extend_simplex(&mut words, &self.gathered);
+        words.extend(self.stops);
         words
     }
 
     /// Adds what the opening gave, in the order of its line.
     fn extend_opening(&self, words: &mut Vec<u64>) {
         let k = &self.coefficients;
-        words.push(self.n as u64);
+        words.extend([self.method.number(), self.n as u64]);
         words.extend(self.rule.words());
         extend_point(words, &[k.alpha, k.chi, k.beta, k.sigma]);
         words.push(self.budget);
@@ -192,6 +212,9 @@ impl Search {
             Phase::Probing(told) => [6, told as u64],
             Phase::Ended(Cause::Settled) => [7, 0],
             Phase::Ended(Cause::Budget) => [8, 0],
+            Phase::Base => [9, 0],
+            Phase::Reflection(i) => [10, i as u64],
+            Phase::Companion(i) => [11, i as u64],
         }
     }
 }

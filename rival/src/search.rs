@@ -1,7 +1,7 @@
 //! The search: what its opening gave and what the readings made of it.
 
-use crate::simplex::Simplex;
-use crate::types::{Axis, Brought, Coefficients, Point, Rule, Vertex, MAX_AXES, ORIGIN};
+use crate::simplex::{Simplex, MAX_VERTICES};
+use crate::types::{Axis, Brought, Coefficients, Method, Point, Rule, Vertex, MAX_AXES, ORIGIN};
 
 /// The side of a contraction.
 #[derive(Clone, Copy, Debug, PartialEq, Eq)]
@@ -38,6 +38,12 @@ pub(crate) enum Phase {
     Probing(usize),
     /// Asking no more.
     Ended(Cause),
+    /// Asking the first base.
+    Base,
+    /// Asking the reflection of a companion, by its number from 1.
+    Reflection(usize),
+    /// Asking an unread companion, by its number from 1.
+    Companion(usize),
 }
 
 /// Counts of the finished pieces, of probe readings, and of the readings still open.
@@ -57,11 +63,15 @@ pub(crate) struct Counts {
     pub(crate) probes: u64,
     /// Readings told in the unfinished iteration or build, without the very first reading.
     pub(crate) open: u64,
+    /// Finished iterations of the multidirectional search.
+    pub(crate) iterations: u64,
+    /// Readings in iterations of the multidirectional search, as they are told.
+    pub(crate) iteration_readings: u64,
 }
 
 impl Counts {
-    /// The counts in the order of document 01.
-    pub(crate) fn in_order(&self) -> [u64; 7] {
+    /// The counts in the order of document 01, and those of the multidirectional search.
+    pub(crate) fn in_order(&self) -> [u64; 9] {
         [
             self.builds,
             self.reflections,
@@ -70,11 +80,13 @@ impl Counts {
             self.shrinks,
             self.probes,
             self.open,
+            self.iterations,
+            self.iteration_readings,
         ]
     }
 
     /// The counts in the same order, to be written.
-    pub(crate) fn in_order_mut(&mut self) -> [&mut u64; 7] {
+    pub(crate) fn in_order_mut(&mut self) -> [&mut u64; 9] {
         [
             &mut self.builds,
             &mut self.reflections,
@@ -83,6 +95,8 @@ impl Counts {
             &mut self.shrinks,
             &mut self.probes,
             &mut self.open,
+            &mut self.iterations,
+            &mut self.iteration_readings,
         ]
     }
 }
@@ -90,6 +104,8 @@ impl Counts {
 /// A search, changed in place by each accepted tell.
 #[derive(Clone, Debug)]
 pub struct Search {
+    /// The method.
+    pub(crate) method: Method,
     /// The axis count.
     pub(crate) n: usize,
     /// The axis records; those past n are all zero.
@@ -108,9 +124,12 @@ pub struct Search {
     pub(crate) counts: Counts,
     /// The earliest reading of least cost.
     pub(crate) best: Vertex,
-    /// The simplex of the last finished build or iteration.
+    /// The simplex of the last finished build or iteration; or the base, and the companions in their order behind it.
     pub(crate) standing: Simplex,
-    /// The vertices that an unfinished build or shrink has so far; r alone while e or a contraction is asked.
+    /// The stops of the companions that are unread, each at its companion's index.
+    pub(crate) stops: [u64; MAX_VERTICES],
+    /// The vertices that an unfinished build or shrink has so far; r alone while e or a contraction is asked; or the reflections
+    /// that a multidirectional iteration was told.
     pub(crate) gathered: Simplex,
     /// How many a build or a shrink has; 0 in every other phase until the search ends.
     pub(crate) vertices: usize,
@@ -128,6 +147,7 @@ impl Search {
     /// The closed search of a refused opening: ended with cause budget, all zero, its rule spread 0.
     pub fn closed() -> Search {
         Search {
+            method: Method::NelderMead,
             n: 0,
             axes: [Axis::default(); MAX_AXES],
             rule: Rule::Spread(0),
@@ -143,6 +163,7 @@ impl Search {
             counts: Counts::default(),
             best: Vertex::ZERO,
             standing: Simplex::EMPTY,
+            stops: [0; MAX_VERTICES],
             gathered: Simplex::EMPTY,
             vertices: 0,
             center: ORIGIN,

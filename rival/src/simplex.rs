@@ -1,4 +1,4 @@
-//! Vertices ordered by cost, lowest first. Place 1 stands at index 0.
+//! Vertices ordered by cost, lowest first, or a base and its companions. Place 1 stands at index 0.
 
 use crate::types::{Vertex, MAX_AXES, MAX_COST};
 
@@ -48,6 +48,12 @@ impl Simplex {
         self.used = vertices + 1;
     }
 
+    /// A vertex stands after the first so many, whatever their costs, and zeros follow.
+    pub(crate) fn place(&mut self, vertices: usize, vertex: &Vertex) {
+        self.clear_from(vertices);
+        self.put(vertices, vertex);
+    }
+
     /// Only the first so many vertices stay, and zeros follow.
     pub(crate) fn clear_from(&mut self, vertices: usize) {
         if vertices < self.used {
@@ -81,11 +87,12 @@ impl Simplex {
     }
 
     /// Writes a vertex at an index.
-    fn put(&mut self, index: usize, vertex: &Vertex) {
+    pub(crate) fn put(&mut self, index: usize, vertex: &Vertex) {
         let first = index * MAX_AXES;
         self.points[first..first + MAX_AXES].copy_from_slice(&vertex.point);
         self.costs[index] = vertex.cost;
         self.numbers[index] = vertex.number;
+        self.used = self.used.max(index + 1);
     }
 
     /// Moves the vertex before a free index to that index.

@@ -12,7 +12,7 @@ impl Search {
         self.phase = if self.rule_is_met(moved) {
             Phase::Probing(0)
         } else {
-            Phase::Reflecting
+            self.first_phase()
         };
     }
 

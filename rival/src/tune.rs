@@ -2,7 +2,7 @@
 
 use crate::search::{Cause, Phase, Search};
 use crate::text::{decimal, fields, put_point, word, Lines, Malformed};
-use crate::types::{Axis, Coefficients, Refusal, Rule, MAX_AXES};
+use crate::types::{Axis, Coefficients, Method, Refusal, Rule, MAX_AXES};
 
 /// Bytes that are read at most.
 pub const LIMIT: usize = 65_536;
@@ -66,7 +66,14 @@ fn read_opening(lines: &mut Lines) -> Result<Option<Search>, Stop> {
         return Ok(None);
     };
     let rule = Some(Rule::Spread(e));
-    let search = Search::open(n, &axes, rule, Coefficients::USUAL, budget)?;
+    let search = Search::open(
+        Method::NelderMead,
+        n,
+        &axes,
+        rule,
+        Coefficients::USUAL,
+        budget,
+    )?;
     Ok(Some(search))
 }
 

@@ -34,6 +34,11 @@ pub struct Axis {
 }
 
 impl Axis {
+    /// Whether v is a position of the axis, which bringing it there leaves as it is; a NaN is none.
+    pub(crate) fn holds(&self, v: f64) -> bool {
+        self.lo <= v && if self.ring { v < self.hi } else { v <= self.hi }
+    }
+
     /// Bring v into the axis: clamped, or brought round on a ring. With it 1 where that is a stop, else 0.
     pub(crate) fn bring(&self, v: f64) -> (f64, u64) {
         if self.ring {
@@ -99,6 +104,34 @@ impl Coefficients {
         beta: 0.5,
         sigma: 0.5,
     };
+}
+
+/// The method of a search.
+#[derive(Clone, Copy, Debug, PartialEq, Eq)]
+pub enum Method {
+    /// Nelder-Mead.
+    NelderMead,
+    /// "The sequential method of source document 002, section 2.3."
+    Multidirectional,
+}
+
+impl Method {
+    /// The method of a number, as a script gives it; none of a number above 1.
+    pub(crate) fn numbered(number: u64) -> Option<Method> {
+        match number {
+            0 => Some(Method::NelderMead),
+            1 => Some(Method::Multidirectional),
+            _ => None,
+        }
+    }
+
+    /// The method's number, as a script gives it.
+    pub(crate) fn number(self) -> u64 {
+        match self {
+            Method::NelderMead => 0,
+            Method::Multidirectional => 1,
+        }
+    }
 }
 
 /// A stopping rule with its E.

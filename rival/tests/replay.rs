@@ -43,8 +43,8 @@ fn calls_before_an_opening_meet_the_closed_search() {
         word(8),
         word(11),
         zeros(10),
-        zeros(1) + &word(1) + &zeros(46) + &word(8),
-        zeros(207)
+        zeros(2) + &word(1) + &zeros(46) + &word(8),
+        zeros(218)
     );
     assert_eq!(transcript(&format!("a\n{}b\ns\n", tell(1, 1))), expected);
 }
@@ -76,7 +76,7 @@ fn every_rule_is_read() {
     let phase = |rule: u64, e: u64| {
         let script = opening(1, rule, e, 9) + &tell(1, 10) + &tell(2, 10) + "s\n";
         let words = last_line(&script);
-        words.split(' ').nth(49).expect("a word").to_string()
+        words.split(' ').nth(50).expect("a word").to_string()
     };
     assert_eq!(phase(0, 0), "0000000000000006");
     assert_eq!(phase(1, 1), "0000000000000006");
@@ -112,8 +112,15 @@ fn malformed_lines_end_the_transcript() {
         format!("t{}\n", word(1)),
         format!("p{}{}\n", word(0), word(0)),
         write(0, 0, 1).replace('\n', " 0000000000000000\n"),
-        format!("r{}\n", word(1)),
-        format!("r{}{}\n", word(1), word(16_777_217)),
+        format!("r{}{}\n", word(0), word(1)),
+        format!("r{}{}{}{}\n", word(0), word(1), word(1), word(1)),
+        format!("r{}{}{}\n", word(0), word(1), word(16_777_217)),
+        format!("r{}{}{}\n", word(2), word(1), word(1)),
+        format!("r{}{}{}\n", word(u64::MAX), word(1), word(1)),
+        format!("p{}{}{}\n", word(15), word(0), word(2)),
+        format!("p{}{}{}\n", word(15), word(0), word(u64::MAX)),
+        with_method(&long, 2),
+        with_method(&long, u64::MAX),
         format!("t{}{}{}\n", word(1), word(1), word(1)),
         "t 0000000000000001 000000000000000A\n".to_string(),
         "t 0000000000000001  00000000000000a\n".to_string(),
@@ -146,13 +153,15 @@ fn parts_that_are_not_in_the_table_are_malformed() {
         (14, 0),
         (14, 9),
         (14, (1 << 32) + 1),
-        (15, 0),
         (15, 1),
+        (16, 0),
+        (16, 10),
+        (17, 0),
         (u64::MAX, 0),
         (0, 1),
         (3, 0),
-        (3, 8),
-        (4, 9),
+        (3, 10),
+        (4, 12),
         (6, 10),
         (8, 0),
         (8, (1 << 32) + 1),
@@ -161,9 +170,16 @@ fn parts_that_are_not_in_the_table_are_malformed() {
     }
 }
 
+/// The method is the first word of an opening.
+fn with_method(line: &str, method: u64) -> String {
+    let mut line = line.to_string();
+    line.replace_range(1..18, &word(method));
+    line
+}
+
 /// A ring is the fifth word of an axis record.
 fn with_ring(line: &str, axis: usize, ring: u64) -> String {
-    let at = 1 + 17 * (8 + 5 * axis - 1);
+    let at = 1 + 17 * (9 + 5 * axis - 1);
     let mut line = line.to_string();
     line.replace_range(at..at + 17, &word(ring));
     line
@@ -205,7 +221,7 @@ fn rings_of_an_opening() {
     }
     let ring = with_ring(&opening(2, 1, 4, 100), 2, 1);
     assert_eq!(
-        last_line(&(ring.clone() + "s\n")).get(..817),
+        last_line(&(ring.clone() + "s\n")).get(..834),
         Some(ring.trim().replacen('o', "s", 1).as_str())
     );
 }
@@ -235,7 +251,8 @@ fn empty_and_longest_scripts() {
 fn a_series_opens_and_tells() {
     // The first bowl stands just above -4, so that the start's squared distance and 1 are just below 17.
     let first = 0x4030ff;
-    let answer = |n: u64, readings: u64| transcript(&format!("r{}{}\n", word(n), word(readings)));
+    let answer =
+        |n: u64, readings: u64| transcript(&format!("r{}{}{}\n", word(0), word(n), word(readings)));
     let expected =
         |verdict, searches, sum| format!("r{}{}{}\n", word(verdict), word(searches), word(sum));
     assert_eq!(answer(1, 0), expected(0, 0, 0));

@@ -44,7 +44,9 @@ impl Shown<'_> {
         let first: String = self.first.iter().map(|&number| word(number)).collect();
         let center = floats(&self.center) + &zeros(6);
         let simplices = simplex(self.standing) + &simplex(self.gathered);
-        format!("{given}{first}{}{center}{simplices}", self.best)
+        let multidirectional = zeros(2);
+        let best = multidirectional + self.best;
+        format!("{given}{first}{best}{center}{simplices}{}", zeros(9))
     }
 }
 
@@ -147,19 +149,21 @@ fn word_of(script: &str, index: usize) -> String {
 #[test]
 fn every_part_is_written() {
     let value = 0x0123_4567_89ab_cdef;
-    let plain = [(0, 0, 0), (1, 0, 7), (2, 0, 50), (7, 0, 66), (13, 0, 67)];
-    let counts = (1..=7).map(|which| (3, which, 50 + which as usize));
-    let phases = [0, 5, 6].map(|phase| (4, phase, 49));
+    let plain = [(0, 0, 1), (1, 0, 8), (2, 0, 51), (7, 0, 69), (13, 0, 70)];
+    let counts = (1..=9).map(|which| (3, which, 51 + which as usize));
+    let phases = [0, 5, 6, 10, 11].map(|phase| (4, phase, 50));
     let places = (1..=9).map(|place| (place, 10 * place as usize));
     let standing = places
         .clone()
-        .flat_map(|(p, at)| [(5, p, 74 + at), (11, p, 75 + at)]);
-    let gathered = places.flat_map(|(p, at)| [(6, p, 164 + at), (12, p, 165 + at)]);
-    let rules = [(8, 1, 2), (8, 2, 2), (8, 3, 2)];
-    let low = (1..=8).map(|axis| (9, axis, 3 + 5 * axis as usize));
-    let high = (1..=8).map(|axis| (10, axis, 4 + 5 * axis as usize));
+        .flat_map(|(p, at)| [(5, p, 77 + at), (11, p, 78 + at)]);
+    let gathered = places.flat_map(|(p, at)| [(6, p, 167 + at), (12, p, 168 + at)]);
+    let rules = [(8, 1, 3), (8, 2, 3), (8, 3, 3)];
+    let low = (1..=8).map(|axis| (9, axis, 4 + 5 * axis as usize));
+    let high = (1..=8).map(|axis| (10, axis, 5 + 5 * axis as usize));
     let all = plain.into_iter().chain(counts).chain(phases);
+    let stops = (1..=9).map(|place| (16, place, 258 + place as usize));
     let all = all.chain(standing).chain(gathered).chain(rules);
+    let all = all.chain(stops);
     for (part, which, at) in all.chain(low).chain(high) {
         for script in [String::new(), example(&[30, 20, 10, 31, 30])] {
             let script = script + &write(part, which, value);
@@ -174,7 +178,7 @@ fn rings_are_written() {
     for axis in 1..=8 {
         for script in [String::new(), example(&[30, 20, 10, 31, 30])] {
             let on = script + &write(14, axis, 1);
-            let at = 7 + 5 * axis as usize;
+            let at = 8 + 5 * axis as usize;
             assert_eq!(last_line(&on), "p");
             assert_eq!(word_of(&on, at), word(1).trim());
             assert_eq!(word_of(&(on + &write(14, axis, 0)), at), word(0).trim());
@@ -184,10 +188,10 @@ fn rings_are_written() {
 
 #[test]
 fn phases_without_a_detail() {
-    for phase in [1, 2, 3, 4, 7, 8] {
+    for phase in [1, 2, 3, 4, 7, 8, 9] {
         let script = example(&[30, 20, 10, 5]) + &write(4, phase, 9);
-        assert_eq!(word_of(&script, 48), word(phase).trim());
-        assert_eq!(word_of(&script, 49), word(0).trim());
+        assert_eq!(word_of(&script, 49), word(phase).trim());
+        assert_eq!(word_of(&script, 50), word(0).trim());
     }
 }
 
@@ -206,7 +210,7 @@ fn calls_go_on_from_what_is_written() {
     );
     let script = script + &write(1, 0, 101) + &tell(101, 4);
     assert_eq!(last_line(&script), format!("t{}", word(0)));
-    assert_eq!(word_of(&script, 48), word(8).trim());
+    assert_eq!(word_of(&script, 49), word(8).trim());
 }
 
 /// "A NaN is shown as 7ff8000000000000, whichever it is."
@@ -215,10 +219,10 @@ fn a_nan_has_one_word() {
     for (rule, nan) in [(2, 0x7ff0_0000_0000_0001), (3, u64::MAX)] {
         let line = last_line(&(example(&[]) + &write(8, rule, nan) + "s\n"));
         let shown = word(rule) + &word(0x7ff8_0000_0000_0000);
-        assert_eq!(line.get(18..52), Some(shown.as_str()));
+        assert_eq!(line.get(35..69), Some(shown.as_str()));
     }
     let shown = word(0x7ff8_0000_0000_0000);
-    for (part, at) in [(9, 8), (10, 9)] {
+    for (part, at) in [(9, 9), (10, 10)] {
         let script = example(&[]) + &write(part, 1, u64::MAX);
         assert_eq!(word_of(&script, at), shown.trim());
     }
@@ -229,7 +233,7 @@ fn a_nan_has_one_word() {
     let script = script + &tell(1, 7);
     let best = word(0) + &shown + &zeros(7) + &word(7) + &word(1);
     assert_eq!(last_line(&(script.clone() + "b\n")), format!("b{best}"));
-    for at in [58, 166] {
+    for at in [61, 169] {
         assert_eq!(word_of(&script, at), shown.trim());
     }
 }

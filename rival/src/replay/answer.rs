@@ -5,7 +5,7 @@ use super::series::{self, Series};
 use crate::parts::Part;
 use crate::search::Search;
 use crate::text::{put_point, put_word};
-use crate::types::{Refusal, Trial, Vertex, ORIGIN};
+use crate::types::{Method, Refusal, Trial, Vertex, ORIGIN};
 
 /// Makes a call and prints its line without the newline.
 pub(super) fn put(out: &mut Vec<u8>, search: &mut Search, call: &Call) {
@@ -16,13 +16,14 @@ pub(super) fn put(out: &mut Vec<u8>, search: &mut Search, call: &Call) {
         Call::Best => put_best(out, search),
         Call::Show => put_state(out, search),
         Call::Write(part, value) => put_written(out, search, *part, *value),
-        Call::Series(n, readings) => put_series(out, *n, *readings),
+        Call::Series(method, n, readings) => put_series(out, *method, *n, *readings),
     }
 }
 
 /// Opens in place of the last search; a refused opening leaves the closed one.
 fn put_open(out: &mut Vec<u8>, search: &mut Search, given: &Opening) {
     let opened = Search::open(
+        given.method,
         given.n,
         &given.axes,
         given.rule,
@@ -78,8 +79,8 @@ fn put_written(out: &mut Vec<u8>, search: &mut Search, part: Part, value: u64) {
 }
 
 /// Runs a series; a refused one gives zeros.
-fn put_series(out: &mut Vec<u8>, n: u64, readings: u64) {
-    let (verdict, series) = verdict(series::run(n, readings), Series::default());
+fn put_series(out: &mut Vec<u8>, method: Method, n: u64, readings: u64) {
+    let (verdict, series) = verdict(series::run(method, n, readings), Series::default());
     out.push(b'r');
     put_word(out, verdict);
     put_word(out, series.searches);

@@ -3,10 +3,10 @@
 use super::series;
 use crate::parts::Part;
 use crate::text::word;
-use crate::types::{Axis, Coefficients, Rule, MAX_AXES};
+use crate::types::{Axis, Coefficients, Method, Rule, MAX_AXES};
 
 /// The words of an opening.
-const OPENING_WORDS: usize = 48;
+const OPENING_WORDS: usize = 49;
 
 /// A call of the script.
 pub(super) enum Call {
@@ -22,12 +22,13 @@ pub(super) enum Call {
     Show,
     /// Writes a part, with its value.
     Write(Part, u64),
-    /// Runs a series, with its axis count and its readings.
-    Series(u64, u64),
+    /// Runs a series, with its method, its axis count and its readings.
+    Series(Method, u64, u64),
 }
 
 /// The arguments of an opening.
 pub(super) struct Opening {
+    pub(super) method: Method,
     pub(super) n: u64,
     pub(super) rule: Option<Rule>,
     pub(super) coefficients: Coefficients,
@@ -47,7 +48,9 @@ pub(super) fn read(line: &[u8]) -> Option<Call> {
         (b'b', 0) => Some(Call::Best),
         (b's', 0) => Some(Call::Show),
         (b'p', 3) => read_written([words[0], words[1], words[2]]),
-        (b'r', 2) if words[1] <= series::LONGEST => Some(Call::Series(words[0], words[1])),
+        (b'r', 3) if words[2] <= series::LONGEST => {
+            Method::numbered(words[0]).map(|method| Call::Series(method, words[1], words[2]))
+        }
         _ => None,
     }
 }
@@ -69,23 +72,24 @@ fn read_written([part, which, value]: [u64; 3]) -> Option<Call> {
     Part::written(part, which, value).map(|part| Call::Write(part, value))
 }
 
-/// Reads an opening from its words; none if its rule is above 3 or a ring, though past n, is above 1.
+/// Reads an opening from its words; none if its method is above 1, its rule above 3, or a ring, though past n, above 1.
 fn read_opening(words: &[u64; OPENING_WORDS]) -> Option<Opening> {
     let float = |i: usize| f64::from_bits(words[i]);
     let mut axes = [Axis::default(); MAX_AXES];
-    for (axis, record) in axes.iter_mut().zip(words[8..].chunks_exact(5)) {
+    for (axis, record) in axes.iter_mut().zip(words[9..].chunks_exact(5)) {
         *axis = read_axis(record)?;
     }
     Some(Opening {
-        n: words[0],
-        rule: read_rule(words[1], words[2])?,
+        method: Method::numbered(words[0])?,
+        n: words[1],
+        rule: read_rule(words[2], words[3])?,
         coefficients: Coefficients {
-            alpha: float(3),
-            chi: float(4),
-            beta: float(5),
-            sigma: float(6),
+            alpha: float(4),
+            chi: float(5),
+            beta: float(6),
+            sigma: float(7),
         },
-        budget: words[7],
+        budget: words[8],
         axes,
     })
 }

@@ -1,7 +1,7 @@
 //! A series of searches with a generated cost.
 
 use crate::search::Search;
-use crate::types::{Axis, Coefficients, Refusal, MAX_AXES};
+use crate::types::{Axis, Coefficients, Method, Refusal, Rule, MAX_AXES};
 
 /// Readings that a series has at most.
 pub(super) const LONGEST: u64 = 16_777_216;
@@ -15,6 +15,9 @@ const AXIS: Axis = Axis {
     ring: false,
 };
 
+/// The rule of every multidirectional search; the others name none.
+const SIZE: Rule = Rule::Size(0.0009765625);
+
 /// The budget of every search.
 const BUDGET: u64 = 1_000_000;
 
@@ -27,21 +30,26 @@ pub(super) struct Series {
 }
 
 /// Runs searches on n axes until so many readings are told.
-pub(super) fn run(n: u64, readings: u64) -> Result<Series, Refusal> {
-    open(n)?;
+pub(super) fn run(method: Method, n: u64, readings: u64) -> Result<Series, Refusal> {
+    open(method, n)?;
     let mut series = Series::default();
     let mut generated = 1;
     while series.told < readings {
         let (around, after) = next_bowl(n as usize, generated);
-        series.run_one(open(n)?, &around[..n as usize], readings);
+        series.run_one(open(method, n)?, &around[..n as usize], readings);
         generated = after;
     }
     Ok(series)
 }
 
 /// The opening of every search.
-fn open(n: u64) -> Result<Search, Refusal> {
-    Search::open(n, &[AXIS; MAX_AXES], None, Coefficients::USUAL, BUDGET)
+fn open(method: Method, n: u64) -> Result<Search, Refusal> {
+    let rule = match method {
+        Method::NelderMead => None,
+        Method::Multidirectional => Some(SIZE),
+    };
+    let axes = [AXIS; MAX_AXES];
+    Search::open(method, n, &axes, rule, Coefficients::USUAL, BUDGET)
 }
 
 impl Series {

@@ -44,13 +44,13 @@ fn limit(search: &Search, seed: &mut u64) -> u64 {
 /// Writes some part, put back in most cases where calls are then refused with 12.
 fn write_any(search: &mut Search, seed: &mut u64) {
     let before = search.clone();
-    let part = next(seed) % 15;
-    let most = [0, 0, 0, 7, 8, 9, 9, 0, 3, 8, 8, 9, 9, 0, 8][part as usize];
-    let from_1 = ![0, 1, 2, 4, 7, 13].contains(&part);
+    let part = next(seed) % 17;
+    let most = [0, 0, 0, 9, 11, 9, 9, 0, 3, 8, 8, 9, 9, 0, 8, 0, 9][part as usize];
+    let from_1 = ![0, 1, 2, 4, 7, 13, 15].contains(&part);
     let which = u64::from(from_1).max(next(seed) % (most + 1));
     let value = match part {
         9 | 10 => limit(search, seed),
-        14 => next(seed) % 2,
+        14 | 15 => next(seed) % 2,
         _ => number(search, seed),
     };
     write(search, (part, which, value));

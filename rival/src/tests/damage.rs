@@ -80,7 +80,7 @@ fn budgets_and_readings() {
 
 #[test]
 fn counts_above_the_budget() {
-    for which in 1..=7 {
+    for which in 1..=9 {
         let back = u64::from(which == 1);
         assert_refused(reflecting(), (3, which, 101), (3, which, back));
         assert_refused(reflecting(), (3, which, u64::MAX), (3, which, back));
@@ -234,7 +234,7 @@ fn costs_of_r() {
         assert_accepted(search.clone(), (6, 1, 16_777_215));
         // No value is read with these phases.
         assert_accepted(search.clone(), (4, phase, u64::MAX));
-        assert_eq!(search.words()[48..50], [phase, 0]);
+        assert_eq!(search.words()[49..51], [phase, 0]);
     }
     assert_accepted(reflecting(), (4, 1, u64::MAX));
 }

@@ -20,7 +20,7 @@ fn made_up(kind: u64, point: &Point, seed: &mut u64) -> u64 {
 /// The readings that the counts account for.
 fn accounted(search: &Search) -> u64 {
     let n = search.n as u64;
-    let [builds, reflections, expansions, contractions, shrinks, probes, open] =
+    let [builds, reflections, expansions, contractions, shrinks, probes, open, ..] =
         search.counts.in_order();
     let iterations = reflections + 2 * expansions + 2 * contractions + (n + 2) * shrinks;
     1 + n * builds + iterations + probes + open
@@ -86,7 +86,7 @@ fn run(n: u64, rule: Rule, kind: u64, seed: &mut u64) -> Search {
 #[test]
 fn every_reading_is_counted() {
     let mut seed = 1;
-    let mut totals = [0; 7];
+    let mut totals = [0; 9];
     for n in 1..=8 {
         for kind in 0..4 {
             for rule in [Rule::Spread(9), Rule::Moved(1e-5), Rule::Size(1e-3)] {

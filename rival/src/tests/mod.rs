@@ -1,4 +1,4 @@
-//! Tests of the engine, with values worked by hand from document 01.
+//! Tests of the engine, with values worked by hand from documents 01 and 02.
 
 mod any_parts;
 mod budget;
@@ -18,6 +18,7 @@ mod stopping;
 mod stops;
 
 use crate::search::Search;
+use crate::types::Method::{Multidirectional, NelderMead};
 use crate::types::{Axis, Coefficients, Point, Rule, ORIGIN};
 
 /// The axis of the examples.
@@ -36,7 +37,15 @@ fn axes(axis: Axis) -> [Axis; 8] {
 
 /// Opens with the usual coefficients.
 fn open(n: u64, axis: Axis, rule: Rule, budget: u64) -> Search {
-    Search::open(n, &axes(axis), Some(rule), Coefficients::USUAL, budget).expect("opening")
+    Search::open(
+        NelderMead,
+        n,
+        &axes(axis),
+        Some(rule),
+        Coefficients::USUAL,
+        budget,
+    )
+    .expect("opening")
 }
 
 /// The search of the examples with two axes.
@@ -120,8 +129,10 @@ fn assert_best(search: &Search, coordinates: &[f64], cost: u64) {
     assert_eq!(best.cost, cost);
 }
 
-/// Asserts builds, reflections, expansions, contractions, shrinks, probes and open.
+/// Asserts builds, reflections, expansions, contractions, shrinks, probes and open; the multidirectional counts stay 0.
 #[track_caller]
 fn assert_counts(search: &Search, counts: [u64; 7]) {
-    assert_eq!(search.counts.in_order(), counts);
+    let [first @ .., iterations, readings] = search.counts.in_order();
+    assert_eq!(first, counts);
+    assert_eq!((iterations, readings), (0, 0));
 }

@@ -20,7 +20,7 @@ fn unusual(costs: &[u64]) -> Search {
         beta: 0.25,
         sigma: 0.75,
     };
-    let opened = Search::open(1, &axes(USUAL_AXIS), None, given, 100);
+    let opened = Search::open(NelderMead, 1, &axes(USUAL_AXIS), None, given, 100);
     after(opened.expect("opening"), costs)
 }
 

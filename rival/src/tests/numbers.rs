@@ -44,7 +44,14 @@ fn no_number_without_a_reading() {
         assert_vertices(&search.standing, &[]);
         assert_vertices(&search.gathered, &[]);
     }
-    let refused = Search::open(0, &axes(USUAL_AXIS), None, Coefficients::USUAL, 9);
+    let refused = Search::open(
+        NelderMead,
+        0,
+        &axes(USUAL_AXIS),
+        None,
+        Coefficients::USUAL,
+        9,
+    );
     assert_eq!(refused.err(), Some(Refusal::numbered(1)));
 }
 

@@ -21,19 +21,19 @@ fn three_axes() -> Search {
         ring: false,
     };
     let rule = Some(Rule::Spread(1));
-    Search::open(3, &given, rule, Coefficients::USUAL, 100).expect("opening")
+    Search::open(NelderMead, 3, &given, rule, Coefficients::USUAL, 100).expect("opening")
 }
 
 #[test]
 fn words_that_name_no_part() {
     let mut search = after_p1(&[]);
     let before = format!("{search:?}");
-    for (part, most) in [(0, 0), (1, 0), (2, 0), (4, 8), (7, 0), (13, 0)] {
+    for (part, most) in [(0, 0), (1, 0), (2, 0), (4, 11), (7, 0), (13, 0), (15, 0)] {
         assert!(!search.write_part(part, most + 1, 0));
         assert!(!search.write_part(part, u64::MAX, 0));
     }
     let counted = [
-        (3, 7),
+        (3, 9),
         (5, 9),
         (6, 9),
         (8, 3),
@@ -42,8 +42,9 @@ fn words_that_name_no_part() {
         (11, 9),
         (12, 9),
         (14, 8),
+        (16, 9),
     ];
-    for (part, most) in counted.into_iter().chain([(15, 0), (u64::MAX, 0)]) {
+    for (part, most) in counted.into_iter().chain([(17, 0), (u64::MAX, 0)]) {
         assert!(!search.write_part(part, 0, 0));
         assert!(!search.write_part(part, most + 1, 0));
         assert!(!search.write_part(part, (1 << 32) + 1, 0));
@@ -54,18 +55,20 @@ fn words_that_name_no_part() {
 #[test]
 fn every_part_is_shown() {
     let mut search = Search::closed();
-    let mut expected = vec![0; 256];
-    expected[1] = 1;
-    expected[48] = 8;
+    let mut expected = vec![0; 268];
+    expected[2] = 1;
+    expected[49] = 8;
     assert_eq!(search.words(), expected);
-    let parts = [(0, 0, 0), (1, 0, 7), (2, 0, 50), (7, 0, 66), (13, 0, 67)];
-    let counts = (1..=7).map(|which| (3, which, 50 + which));
-    let standing = (1..=9).flat_map(|p| [(5, p, 74 + 10 * p), (11, p, 75 + 10 * p)]);
-    let gathered = (1..=9).flat_map(|p| [(6, p, 164 + 10 * p), (12, p, 165 + 10 * p)]);
-    let low = (1..=8).map(|axis| (9, axis, 3 + 5 * axis));
-    let high = (1..=8).map(|axis| (10, axis, 4 + 5 * axis));
+    let parts = [(0, 0, 1), (1, 0, 8), (2, 0, 51), (7, 0, 69), (13, 0, 70)];
+    let counts = (1..=9).map(|which| (3, which, 51 + which));
+    let standing = (1..=9).flat_map(|p| [(5, p, 77 + 10 * p), (11, p, 78 + 10 * p)]);
+    let gathered = (1..=9).flat_map(|p| [(6, p, 167 + 10 * p), (12, p, 168 + 10 * p)]);
+    let low = (1..=8).map(|axis| (9, axis, 4 + 5 * axis));
+    let high = (1..=8).map(|axis| (10, axis, 5 + 5 * axis));
+    let stops = (1..=9).map(|p| (16, p, 258 + p));
     let all = parts.into_iter().chain(counts).chain(standing);
-    for (part, which, at) in all.chain(gathered).chain(low).chain(high) {
+    let all = all.chain(gathered).chain(stops);
+    for (part, which, at) in all.chain(low).chain(high) {
         let value = 1_000_000_007 * (at + 1);
         write(&mut search, (part, which, value));
         expected[at as usize] = value;
@@ -78,7 +81,7 @@ fn rings_are_shown() {
     let mut search = after_p1(&[]);
     let before = search.words();
     for axis in 1..=8 {
-        let at = 7 + 5 * axis as usize;
+        let at = 8 + 5 * axis as usize;
         for value in [2, 256, (1 << 32) + 1, u64::MAX] {
             assert!(!search.write_part(14, axis, value));
             assert_eq!(search.words(), before);
@@ -95,15 +98,15 @@ fn rings_are_shown() {
 #[test]
 fn phases_and_rules_are_shown() {
     let mut search = after_p1(&[]);
-    for phase in 0..=8 {
+    for phase in 0..=11 {
         write(&mut search, (4, phase, u64::MAX));
-        let detail = [0, u64::MAX][usize::from([0, 5, 6].contains(&phase))];
-        assert_eq!(search.words()[48..50], [phase, detail]);
+        let detail = [0, u64::MAX][usize::from([0, 5, 6, 10, 11].contains(&phase))];
+        assert_eq!(search.words()[49..51], [phase, detail]);
     }
     for rule in 1..=3 {
         // as a float this is negative and is no NaN
         write(&mut search, (8, rule, 0xbff0_0000_0000_0001));
-        assert_eq!(search.words()[1..3], [rule, 0xbff0_0000_0000_0001]);
+        assert_eq!(search.words()[2..4], [rule, 0xbff0_0000_0000_0001]);
     }
 }
 

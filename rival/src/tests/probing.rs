@@ -80,7 +80,14 @@ fn probes_are_clamped_and_use_each_step() {
     let mut given = axes(USUAL_AXIS);
     given[0].start = 8.0;
     given[1].step = 2.0;
-    let opened = Search::open(2, &given, Some(Rule::Spread(1)), Coefficients::USUAL, 100);
+    let opened = Search::open(
+        NelderMead,
+        2,
+        &given,
+        Some(Rule::Spread(1)),
+        Coefficients::USUAL,
+        100,
+    );
     let mut search = after(opened.expect("opening"), &[5, 5, 5]);
     for (number, probe) in [
         (4, [8.0, 0.0]),

@@ -32,7 +32,7 @@ fn given() -> Given {
 fn refusal(change: impl Fn(&mut Given)) -> (u64, u64) {
     let mut g = given();
     change(&mut g);
-    match Search::open(g.n, &g.axes, g.rule, g.coefficients, g.budget) {
+    match Search::open(NelderMead, g.n, &g.axes, g.rule, g.coefficients, g.budget) {
         Ok(_) => (0, 0),
         Err(refusal) => (refusal.number, refusal.axis),
     }
@@ -134,7 +134,7 @@ fn records_past_n_are_not_read() {
         let mut g = given();
         g.axes[2].lo = NAN;
         g.axes[7].step = -1.0;
-        Search::open(g.n, &g.axes, g.rule, g.coefficients, g.budget).expect("opening")
+        Search::open(NelderMead, g.n, &g.axes, g.rule, g.coefficients, g.budget).expect("opening")
     };
     assert_trial(&search, 1, &[0.0, 0.0]);
     assert_eq!(

@@ -14,7 +14,7 @@ fn ring(start: f64) -> Axis {
 
 /// The refusal's number and axis of an opening on these axes, (0, 0) if accepted.
 fn refusal(n: u64, given: &[Axis; 8], coefficients: Coefficients) -> (u64, u64) {
-    match Search::open(n, given, None, coefficients, 100) {
+    match Search::open(NelderMead, n, given, None, coefficients, 100) {
         Ok(_) => (0, 0),
         Err(Refusal { number, axis }) => (number, axis),
     }
@@ -126,11 +126,12 @@ fn axis_by_axis_and_before_5() {
 fn a_ring_past_n_is_not_read() {
     let mut given = axes(ring(0.0));
     given[2] = ring(8.0);
-    let search = Search::open(2, &given, None, Coefficients::USUAL, 100).expect("opening");
+    let search =
+        Search::open(NelderMead, 2, &given, None, Coefficients::USUAL, 100).expect("opening");
     assert_eq!(refusal(3, &given, Coefficients::USUAL), (13, 3));
     let rings = search.axes.map(|axis| axis.ring);
     assert_eq!(rings[..2], [true; 2]);
     assert_eq!(rings[2..], [false; 6]);
-    let shown: Vec<u64> = (1..=8).map(|axis| search.words()[7 + 5 * axis]).collect();
+    let shown: Vec<u64> = (1..=8).map(|axis| search.words()[8 + 5 * axis]).collect();
     assert_eq!(shown, [1, 1, 0, 0, 0, 0, 0, 0]);
 }

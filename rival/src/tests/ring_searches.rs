@@ -28,7 +28,14 @@ fn with(record: Axis, alpha: f64, chi: f64, costs: &[u64]) -> Search {
         chi,
         ..Coefficients::USUAL
     };
-    let opened = Search::open(1, &axes(record), Some(Rule::Spread(1)), given, 100);
+    let opened = Search::open(
+        NelderMead,
+        1,
+        &axes(record),
+        Some(Rule::Spread(1)),
+        given,
+        100,
+    );
     after(opened.expect("opening"), costs)
 }
 
@@ -59,7 +66,7 @@ fn a_build_steps_over_the_seam() {
 fn each_axis_of_a_build_by_its_own_ring() {
     let mut given = axes(ring(7.5, 1.0));
     given[1].ring = false;
-    let opened = Search::open(3, &given, None, Coefficients::USUAL, 100);
+    let opened = Search::open(NelderMead, 3, &given, None, Coefficients::USUAL, 100);
     let mut search = opened.expect("opening");
     let trials = [
         [7.5, 7.5, 7.5],
@@ -197,7 +204,7 @@ fn nothing_else_knows_of_rings() {
     // Two axes: places (7.5, 0), (−7.5, 0), (7.5, 1) have c = (0, 0).
     let mut given = axes(USUAL_AXIS);
     given[0] = ring(7.5, 1.0);
-    let opened = Search::open(2, &given, None, Coefficients::USUAL, 100);
+    let opened = Search::open(NelderMead, 2, &given, None, Coefficients::USUAL, 100);
     let search = after(opened.expect("opening"), &[10, 20, 30]);
     assert_trial(&search, 4, &[-7.5, -1.0]);
     // The shrink is 7.5 + (−7.5 − 7.5)/2.
@@ -212,7 +219,7 @@ fn a_ring_is_no_stop_where_another_axis_is() {
     let mut given = axes(USUAL_AXIS);
     (given[0].hi, given[1].hi) = (1.25, 1.25);
     given[0].ring = true;
-    let opened = Search::open(2, &given, None, Coefficients::USUAL, 100);
+    let opened = Search::open(NelderMead, 2, &given, None, Coefficients::USUAL, 100);
     let mut search = after(opened.expect("opening"), &[30, 20, 10]);
     assert_stops(&search, 0, &[1.0, 1.0]);
     tell_all(&mut search, &[5]);
@@ -339,7 +346,7 @@ fn every_trial_lies_on_its_ring() {
             beta: 0.5,
             sigma: 0.9,
         };
-        let opened = Search::open(n, &given, Some(Rule::Spread(1)), wild, 2000);
+        let opened = Search::open(NelderMead, n, &given, Some(Rule::Spread(1)), wild, 2000);
         let mut search = opened.expect("opening");
         while let Ok(trial) = search.ask() {
             assert_eq!(trial.stops, 0);

@@ -21,7 +21,14 @@ fn phase(n: u64, rule: Rule, costs: &[u64]) -> Phase {
 #[test]
 fn unnamed_rule_is_spread_4() {
     // With one axis and costs 0 and f: f² < 4·1·2.
-    let opened = Search::open(1, &axes(USUAL_AXIS), None, Coefficients::USUAL, 100);
+    let opened = Search::open(
+        NelderMead,
+        1,
+        &axes(USUAL_AXIS),
+        None,
+        Coefficients::USUAL,
+        100,
+    );
     let opened = opened.expect("opening");
     assert_eq!(after(opened.clone(), &[0, 2]).phase, Phase::Probing(0));
     assert_eq!(after(opened, &[0, 3]).phase, Phase::Reflecting);

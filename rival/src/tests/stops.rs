@@ -21,7 +21,7 @@ fn one(start: f64, step: f64, costs: &[u64]) -> Search {
 fn limited(hi: [f64; 2], costs: &[u64]) -> Search {
     let mut given = axes(USUAL_AXIS);
     (given[0].hi, given[1].hi) = (hi[0], hi[1]);
-    let opened = Search::open(2, &given, None, Coefficients::USUAL, 100);
+    let opened = Search::open(NelderMead, 2, &given, None, Coefficients::USUAL, 100);
     after(after(opened.expect("opening"), &[30, 20, 10]), costs)
 }
 
@@ -54,7 +54,7 @@ fn every_one_of_eight_axes() {
         chi: 8.0,
         ..Coefficients::USUAL
     };
-    let opened = Search::open(8, &axes(axis), None, given, 100).expect("opening");
+    let opened = Search::open(NelderMead, 8, &axes(axis), None, given, 100).expect("opening");
     let mut search = after(opened, &[90, 80, 70, 60, 50, 40, 30, 20, 10]);
     assert_stops(&search, 0, &[0.25; 8]);
     tell_all(&mut search, &[5]);
@@ -134,7 +134,7 @@ fn a_step_back_that_is_clamped_is_one() {
     assert!(record.start + record.step > record.hi && record.start - record.step < record.lo);
     let mut given = axes(USUAL_AXIS);
     given[1] = record;
-    let opened = Search::open(3, &given, None, Coefficients::USUAL, 100);
+    let opened = Search::open(NelderMead, 3, &given, None, Coefficients::USUAL, 100);
     let mut search = opened.expect("opening");
     assert_stops(&search, 0, &[0.0, record.start]);
     tell_all(&mut search, &[1]);
@@ -163,7 +163,7 @@ fn a_shrink_between_limits() {
     // Places (8,8), (8,7), (7,8): the inside point and its shrink stay between them.
     let mut given = axes(USUAL_AXIS);
     (given[0].start, given[1].start) = (7.0, 7.0);
-    let opened = Search::open(2, &given, None, Coefficients::USUAL, 100);
+    let opened = Search::open(NelderMead, 2, &given, None, Coefficients::USUAL, 100);
     let mut search = after(opened.expect("opening"), &[30, 20, 10]);
     assert_stops(&search, 0, &[8.0, 8.0]);
     tell_all(&mut search, &[10]);
@@ -191,7 +191,7 @@ fn a_contraction_where_the_sum_rounds_past_hi() {
         beta: 1e-300,
         ..Coefficients::USUAL
     };
-    let opened = Search::open(3, &axes(axis), None, given, 100).expect("opening");
+    let opened = Search::open(NelderMead, 3, &axes(axis), None, given, 100).expect("opening");
     let search = after(opened, &[10, 20, 30, 40]);
     let c = (hi + (hi - 0.5) + hi) / 3.0;
     let r = c + (c - hi);

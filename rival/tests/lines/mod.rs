@@ -21,7 +21,7 @@ pub fn opening(n: u64, rule: u64, e: u64, budget: u64) -> String {
     let axis = floats(&[-8.0, 8.0, 0.0, 1.0]) + &word(0);
     let axes = axis.repeat(n as usize) + &zeros(40 - 5 * n as usize);
     let coefficients = floats(&[1.0, 2.0, 0.5, 0.5]);
-    let first = word(n) + &word(rule) + &word(e);
+    let first = word(0) + &word(n) + &word(rule) + &word(e);
     format!("o{first}{coefficients}{}{axes}\n", word(budget))
 }
 
