@@ -137,10 +137,10 @@ impl Search {
         let mut standing = Simplex::EMPTY;
         let mut stops = [0; MAX_VERTICES];
         standing.place(0, base);
-        for i in 1..=self.n {
-            let (vertex, count) = companion(self, i);
+        for (i, count) in stops.iter_mut().enumerate().take(self.n + 1).skip(1) {
+            let (vertex, made) = companion(self, i);
             standing.place(i, &vertex);
-            stops[i] = count;
+            *count = made;
         }
         self.standing = standing;
         self.stops = stops;

@@ -260,3 +260,33 @@ fn a_series_opens_and_tells() {
     assert_eq!(answer(0, 1), expected(1, 0, 0));
     assert_eq!(answer(9, 1), expected(1, 0, 0));
 }
+
+#[test]
+fn a_series_of_the_multidirectional_search() {
+    // The first bowl stands just above -4: the start costs what it does above, and the reflection at -1 less.
+    let answer =
+        |n: u64, readings: u64| transcript(&format!("r{}{}{}\n", word(1), word(n), word(readings)));
+    let expected =
+        |verdict, searches, sum| format!("r{}{}{}\n", word(verdict), word(searches), word(sum));
+    assert_eq!(answer(1, 0), expected(0, 0, 0));
+    assert_eq!(answer(1, 1), expected(0, 1, 0x4030ff));
+    // At -1 the squared distance and 1 are just below 10, whose bits begin with 4024.
+    assert_eq!(answer(1, 2), expected(0, 1, 0x4030ff + 0x4023ff));
+    assert_eq!(answer(0, 1), expected(1, 0, 0));
+    assert_eq!(answer(9, 0), expected(1, 0, 0));
+}
+
+#[test]
+fn openings_of_the_multidirectional_search() {
+    let e = 0.5f64.to_bits();
+    let refused = |number| format!("o{}{}", word(number), word(0));
+    assert_eq!(last_line(&opening_of(1, 2, 3, e, 3)), refused(0));
+    for rule in [0, 1, 2] {
+        assert_eq!(last_line(&opening_of(1, 2, rule, e >> 32, 2)), refused(14));
+    }
+    assert_eq!(last_line(&opening_of(1, 2, 3, e, 2)), refused(7));
+    assert_eq!(last_line(&opening_of(1, 2, 3, 0, 2)), refused(6));
+    // A refused one leaves the closed search, whose method is Nelder-Mead.
+    let closed = last_line(&(opening_of(1, 2, 0, e, 3) + "s\n"));
+    assert_eq!(closed, last_line("s\n"));
+}

@@ -237,3 +237,55 @@ fn a_nan_has_one_word() {
         assert_eq!(word_of(&script, at), shown.trim());
     }
 }
+
+/// The state line of a multidirectional search of two axes, lo of the second −1/2, after costs.
+fn companions(costs: &[u64]) -> (String, String) {
+    let given = opening_of(1, 2, 3, 0.01f64.to_bits(), 100);
+    let second = floats(&[-8.0, 8.0, 0.0, 1.0]);
+    let at = given.rfind(&second).expect("a second axis");
+    let given = given[..at].to_string() + &floats(&[-0.5]) + &given[at + 17..];
+    let tells = (1..).zip(costs).map(|(number, &cost)| tell(number, cost));
+    let line = last_line(&(given.clone() + &tells.collect::<String>() + "s\n"));
+    (given.trim_end().replacen('o', "s", 1), line)
+}
+
+/// Phase, detail, readings, iterations and readings in those; best; standing and gathered; the third place's stops.
+fn companions_shown(
+    given: &str,
+    numbers: [u64; 5],
+    best: &str,
+    simplices: [&[String]; 2],
+    stops: u64,
+) -> String {
+    let [phase, detail, readings, iterations, read] = numbers.map(word);
+    let counts = zeros(7) + &iterations + &read;
+    let places = simplices.map(simplex).concat();
+    let first = phase + &detail + &readings + &counts;
+    let stops = zeros(2) + &word(stops) + &zeros(6);
+    format!("{given}{first}{best}{}{places}{stops}", zeros(8))
+}
+
+#[test]
+fn states_of_companions() {
+    let (given, line) = companions(&[]);
+    let none: [&[String]; 2] = [&[], &[]];
+    let shown = companions_shown(&given, [9, 0, 0, 0, 0], &zeros(10), none, 0);
+    assert_eq!(line, shown);
+    let nine = vertex(0.0, 0.0, 9, 1);
+    let unread = |x, y| vertex(x, y, 0, 0);
+    let built = [nine.clone(), unread(1.0, 0.0), unread(0.0, 1.0)];
+    let shown = companions_shown(&given, [10, 1, 1, 0, 0], &nine, [&built, &[]], 0);
+    assert_eq!(companions(&[9]).1, shown);
+    let told = [vertex(-1.0, 0.0, 9, 2), vertex(0.0, -0.5, 11, 3)];
+    let shown = companions_shown(&given, [10, 2, 2, 0, 1], &nine, [&built, &told[..1]], 0);
+    assert_eq!(companions(&[9, 9]).1, shown);
+    let shown = companions_shown(&given, [11, 1, 3, 0, 2], &nine, [&built, &told], 0);
+    assert_eq!(companions(&[9, 9, 11]).1, shown);
+    let read = [nine.clone(), vertex(1.0, 0.0, 12, 4), unread(0.0, 1.0)];
+    let shown = companions_shown(&given, [11, 2, 4, 0, 3], &nine, [&read, &told], 0);
+    assert_eq!(companions(&[9, 9, 11, 12]).1, shown);
+    let eight = vertex(-1.0, 0.0, 8, 2);
+    let swapped = [eight.clone(), nine, unread(0.0, -0.5)];
+    let shown = companions_shown(&given, [10, 1, 2, 1, 1], &eight, [&swapped, &[]], 1);
+    assert_eq!(companions(&[9, 8]).1, shown);
+}

@@ -119,6 +119,7 @@ fn searches_go_on_from_their_parts() {
         let n = 1 + next(&mut seed) % 8;
         let search = match round % 10 {
             0 => Search::closed(),
+            1..=4 => multidirectional(n, &axes(any_ring(&mut seed)), 0.1, 300),
             _ => open(n, any_ring(&mut seed), rule, 300),
         };
         accepted += lead(search, &mut seed);

@@ -1,11 +1,16 @@
 //! Tests of the engine, with values worked by hand from documents 01 and 02.
 
 mod any_parts;
+mod bases;
 mod budget;
+mod companion_damage;
+mod companion_parts;
+mod companions;
 mod damage;
 mod equation;
 mod examples;
 mod held;
+mod methods;
 mod moves;
 mod numbers;
 mod parts;
@@ -135,4 +140,32 @@ fn assert_counts(search: &Search, counts: [u64; 7]) {
     let [first @ .., iterations, readings] = search.counts.in_order();
     assert_eq!(first, counts);
     assert_eq!((iterations, readings), (0, 0));
+}
+
+/// A multidirectional search with the usual coefficients and rule size.
+fn multidirectional(n: u64, given: &[Axis; 8], e: f64, budget: u64) -> Search {
+    let rule = Some(Rule::Size(e));
+    let usual = Coefficients::USUAL;
+    Search::open(Multidirectional, n, given, rule, usual, budget).expect("opening")
+}
+
+/// The multidirectional search of the examples' axes, its rule not met but by the least companions.
+fn around(n: u64, costs: &[u64]) -> Search {
+    let axes = axes(USUAL_AXIS);
+    after(multidirectional(n, &axes, f64::from_bits(1), 100), costs)
+}
+
+/// Asserts the base's, or a companion's, point, cost, reading's number and stops, by its index.
+#[track_caller]
+fn assert_stands(search: &Search, index: usize, coordinates: &[f64], told: [u64; 3]) {
+    let vertex = search.standing.vertex(index);
+    assert_eq!(bits(&vertex.point), bits(&padded(coordinates)));
+    assert_eq!([vertex.cost, vertex.number, search.stops[index]], told);
+}
+
+/// Asserts finished iterations, the readings in iterations, and probes.
+#[track_caller]
+fn assert_iterations(search: &Search, iterations: u64, readings: u64, probes: u64) {
+    let counts = [0, 0, 0, 0, 0, probes, 0, iterations, readings];
+    assert_eq!(search.counts.in_order(), counts);
 }

@@ -16,12 +16,17 @@ pub fn zeros(count: usize) -> String {
     word(0).repeat(count)
 }
 
-/// An opening with the axis of the examples on the first n records, zeros past them.
+/// A Nelder-Mead opening with the axis of the examples on the first n records, zeros past them.
 pub fn opening(n: u64, rule: u64, e: u64, budget: u64) -> String {
+    opening_of(0, n, rule, e, budget)
+}
+
+/// An opening of a method.
+pub fn opening_of(method: u64, n: u64, rule: u64, e: u64, budget: u64) -> String {
     let axis = floats(&[-8.0, 8.0, 0.0, 1.0]) + &word(0);
     let axes = axis.repeat(n as usize) + &zeros(40 - 5 * n as usize);
     let coefficients = floats(&[1.0, 2.0, 0.5, 0.5]);
-    let first = word(0) + &word(n) + &word(rule) + &word(e);
+    let first = word(method) + &word(n) + &word(rule) + &word(e);
     format!("o{first}{coefficients}{}{axes}\n", word(budget))
 }
 
