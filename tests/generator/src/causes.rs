@@ -49,7 +49,7 @@ pub struct Causes {
     /// Accepted at the edge.
     pub accepted: [[u64; 3]; CAUSES.len()],
     /// Accepted tells of searches of which a part was written before, by phase.
-    pub made_up: [u64; 7],
+    pub made_up: [u64; 12],
 }
 
 impl Causes {

@@ -3,6 +3,7 @@
 
 use crate::axes;
 use crate::costs::{Costs, DARK};
+use crate::habits::NELDER_MEAD;
 use crate::openings::{Opening, MOST_BUDGET, SPREAD};
 use crate::random::Random;
 use crate::state::State;
@@ -26,6 +27,7 @@ fn opening(random: &mut Random) -> Opening {
         _ => all_close(random, n),
     };
     Opening {
+        method: NELDER_MEAD,
         n,
         rule: SPREAD,
         threshold: random.pick(&[1, 1, 4]),

@@ -3,6 +3,7 @@
 use crate::corners;
 use crate::costs::{Costs, DARK};
 use crate::edges;
+use crate::habits::NELDER_MEAD;
 use crate::openings::{self, Opening};
 use crate::random::Random;
 use crate::rings;
@@ -36,12 +37,13 @@ pub fn usual_tells(random: &mut Random) -> u64 {
 
 /// A search opened and led for so many tells, or to its end; one in six runs into a corner, and all its trials are asked.
 pub fn course(script: &mut Script, random: &mut Random, manner: Manner, tells: u64) {
-    if random.one_in(6) {
+    let method = script.habit.next_method(random);
+    if random.one_in(6) && method == NELDER_MEAD {
         let (opening, costs) = corners::search(random);
         lead(script, random, Manner::Neat, &opening, costs, tells);
     } else {
-        let mut opening = openings::fitting(random, tells);
-        if script.rings {
+        let mut opening = openings::fitting(random, tells, method);
+        if script.habit.rings {
             rings::put(random, &mut opening);
         }
         let costs = planned_costs(random, &mut opening, tells);
@@ -144,15 +146,17 @@ pub fn calls(script: &mut Script, random: &mut Random) {
 
 /// A series, most of them short. One that is refused may be of any length.
 pub fn series(script: &mut Script, random: &mut Random) {
+    let method = script.habit.next_method(random);
     let n = random.between(1, 8);
     let some = random.between(1, 1000);
     let readings = random.pick(&[0, 1, n + 1, n + 2, 3 * n + 1, 100, some, some]);
     match random.below(6) {
         0 => script.series(
+            method,
             random.pick(&[0, 9, 16, 256 + 1, (1 << 32) + 1, u64::MAX]),
             random.pick(&[0, 1, 50, LONGEST_SERIES]),
         ),
-        _ => script.series(n, readings),
+        _ => script.series(method, n, readings),
     }
 }
 

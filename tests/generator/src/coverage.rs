@@ -12,7 +12,7 @@ use rival::replay::Replay;
 pub struct Calls {
     pub accepted: u64,
     /// By the refusal's number.
-    pub refused: [u64; 14],
+    pub refused: [u64; 15],
 }
 
 impl Calls {
@@ -60,7 +60,7 @@ pub struct Coverage {
     pub traces: Traces,
     pub rings: Rings,
     /// `s` lines of opened searches by phase, while no part is written.
-    pub phases: [u64; 9],
+    pub phases: [u64; 12],
     /// Searches that were last shown ended, settled and by the budget.
     pub endings: [u64; 2],
     /// Finished pieces, and probe readings, of all searches as they were last shown.
@@ -160,8 +160,8 @@ impl Coverage {
     /// Counts the phase and keeps the state, if a search is open; the closed search is left out.
     fn add_state(&mut self, line: &[u8], shown: &mut Option<Shown>) {
         if let Some(shown) = shown {
-            shown.phase = word(line, 48);
-            shown.counts = std::array::from_fn(|i| word(line, 51 + i));
+            shown.phase = word(line, 49);
+            shown.counts = std::array::from_fn(|i| word(line, 52 + i));
             add_at(&mut self.phases, shown.phase);
         }
     }
@@ -170,7 +170,7 @@ impl Coverage {
         let Some(last) = shown.take() else {
             return;
         };
-        if last.phase >= 7 {
+        if (7..=8).contains(&last.phase) {
             add_at(&mut self.endings, last.phase - 7);
         }
         let restarts = last.counts[0].saturating_sub(1);

@@ -11,6 +11,7 @@ mod damage;
 mod edges;
 mod ends;
 mod episodes;
+mod habits;
 mod held;
 mod limits;
 mod malformed;
@@ -53,6 +54,7 @@ const GATE_TEXTS: u64 = 4000;
 #[derive(Default)]
 struct Wishes {
     seed: Option<u64>,
+    method: Option<u64>,
     scripts: Option<u64>,
     script: Option<u64>,
     text: Option<u64>,
@@ -66,6 +68,7 @@ impl Wishes {
             let number = Some(pair.get(1)?.parse().ok()?);
             match pair[0].as_str() {
                 "--seed" => wishes.seed = number,
+                "--method" => wishes.method = number.filter(|method| *method <= 1),
                 "--scripts" => wishes.scripts = number,
                 "--script" => wishes.script = number,
                 "--text" => wishes.text = number,
@@ -79,15 +82,15 @@ impl Wishes {
 fn main() -> ExitCode {
     let Some(wishes) = Wishes::read(env::args().skip(1)) else {
         println!(
-            "usage: compare [--seed S] [--scripts N | --script K | --text K]\n0 passed, 1 failed"
+            "usage: compare [--seed S] [--method 0|1] [--scripts N | --script K | --text K]\n0 passed, 1 failed"
         );
         return ExitCode::FAILURE;
     };
     let seed = wishes.seed.unwrap_or(GATE_SEED);
     match (wishes.script, wishes.text) {
-        (Some(number), _) => print(&scripts::script(seed, number)),
+        (Some(number), _) => print(&scripts::script(seed, number, wishes.method)),
         (_, Some(number)) => print(&texts::text(seed, number)),
-        _ => compare(seed, wishes.scripts, wishes.seed.is_none()),
+        _ => compare(seed, &wishes),
     }
 }
 
@@ -103,9 +106,11 @@ fn named(variable: &str, usual: &str) -> OsString {
 }
 
 /// Runs so many scripts and texts, or as many as the gate. The gate's own run also has to cover enough.
-fn compare(seed: u64, count: Option<u64>, gate_seed: bool) -> ExitCode {
+fn compare(seed: u64, wishes: &Wishes) -> ExitCode {
+    let count = wishes.scripts;
     let run = Run {
         seed,
+        method: wishes.method,
         scripts: count.unwrap_or(GATE_SCRIPTS),
         texts: count.unwrap_or(GATE_TEXTS),
         replay: named("REPLAY", "crates/replay/out/replay"),
@@ -114,7 +119,7 @@ fn compare(seed: u64, count: Option<u64>, gate_seed: bool) -> ExitCode {
     let mut outcome = run.outcome();
     println!("seed {seed}");
     summary::print(&outcome.coverage);
-    if count.is_none() && gate_seed {
+    if count.is_none() && wishes.seed.is_none() && wishes.method.is_none() {
         hold_coverage(&mut outcome);
     }
     println!("{} passed, {} failed", outcome.passed, outcome.failed);

@@ -2,12 +2,13 @@
 
 use crate::courses::{self, Manner, LONGEST_SERIES};
 use crate::damage::damage;
+use crate::habits::Habit;
 use crate::random::Random;
 use crate::script::Script;
 use crate::{parts, state};
 
-pub fn script(random: &mut Random, rings: bool) -> Vec<u8> {
-    let mut script = plain(random, rings);
+pub fn script(random: &mut Random, habit: Habit) -> Vec<u8> {
+    let mut script = plain(random, habit);
     if random.one_in(12) {
         too_long_series(&mut script, random);
         return script.text.into_bytes();
@@ -29,11 +30,11 @@ pub fn script(random: &mut Random, rings: bool) -> Vec<u8> {
 }
 
 /// A short script that is not damaged yet; one in three writes parts.
-fn plain(random: &mut Random, rings: bool) -> Script {
+fn plain(random: &mut Random, habit: Habit) -> Script {
     if random.one_in(3) {
-        return parts::short(random, rings);
+        return parts::short(random, habit);
     }
-    let mut script = Script::with(rings);
+    let mut script = Script::with(habit);
     let tells = random.between(1, 15);
     courses::course(&mut script, random, Manner::Loose, tells);
     script
@@ -43,7 +44,8 @@ fn plain(random: &mut Random, rings: bool) -> Script {
 fn too_long_series(script: &mut Script, random: &mut Random) {
     let over = LONGEST_SERIES + 1;
     let readings = random.pick(&[over, over, 1 << 32, (1 << 32) + 5, u64::MAX]);
-    script.series(random.between(0, 9), readings);
+    let method = script.habit.method;
+    script.series(method, random.between(0, 9), readings);
     script.ask();
 }
 
@@ -51,7 +53,7 @@ fn too_long_series(script: &mut Script, random: &mut Random) {
 fn other_rule(random: &mut Random, text: &mut [u8]) {
     let rule: u64 = random.pick(&[4, 4, 5, 9, 16, 257, (1 << 32) + 1, 1 << 63, u64::MAX]);
     let word = format!("{rule:016x}");
-    text[19..35].copy_from_slice(word.as_bytes());
+    text[36..52].copy_from_slice(word.as_bytes());
 }
 
 /// A ring above 1 in the opening, or in a line more that writes one.
@@ -70,7 +72,7 @@ fn other_ring(random: &mut Random, text: &mut Vec<u8>) {
     ]);
     let axis = random.between(1, 8);
     if random.one_in(2) {
-        let at = 2 + 17 * (7 + 5 * axis as usize);
+        let at = 2 + 17 * (8 + 5 * axis as usize);
         text[at..at + 16].copy_from_slice(format!("{ring:016x}").as_bytes());
     } else {
         let line = format!("p {:016x} {axis:016x} {ring:016x}\n", 14);
@@ -105,8 +107,8 @@ fn other_part(random: &mut Random, text: &mut Vec<u8>) {
         (0, 0),
         (1, 0),
         (2, 0),
-        (3, 7),
-        (4, 8),
+        (3, 9),
+        (4, 11),
         (5, 9),
         (6, 9),
         (7, 0),
@@ -119,6 +121,8 @@ fn other_part(random: &mut Random, text: &mut Vec<u8>) {
         (14, 8),
         (14, 8),
         (15, 0),
+        (16, 9),
+        (17, 0),
     ];
     let (part, most): (u64, u64) = random.pick(&edges);
     let huge = random.pick(&[u64::MAX, 1 << 32, (1 << 32) + most, 1 << 63]);

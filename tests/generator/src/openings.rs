@@ -1,8 +1,9 @@
 //! Openings: the words of a script's `o` line, and openings that are not refused.
 
 use crate::axes;
+use crate::habits::{MULTIDIRECTIONAL, NELDER_MEAD};
 use crate::random::Random;
-use rival::{Axis, Coefficients, Refusal, Rule, Search};
+use rival::{Axis, Coefficients, Method, Refusal, Rule, Search};
 
 pub const USUAL: [f64; 4] = [1.0, 2.0, 0.5, 0.5];
 pub const MOST_BUDGET: u64 = 1_000_000;
@@ -15,6 +16,7 @@ pub const SIZE: u64 = 3;
 /// The threshold is a whole number for spread and a float's bits for moved and size, as in the script.
 #[derive(Clone, Copy)]
 pub struct Opening {
+    pub method: u64,
     pub n: u64,
     pub rule: u64,
     pub threshold: u64,
@@ -26,8 +28,8 @@ pub struct Opening {
 impl Opening {
     pub fn line(&self) -> String {
         let mut line = format!(
-            "o {:016x} {:016x} {:016x}",
-            self.n, self.rule, self.threshold
+            "o {:016x} {:016x} {:016x} {:016x}",
+            self.method, self.n, self.rule, self.threshold
         );
         self.coefficients
             .iter()
@@ -46,7 +48,12 @@ impl Opening {
             beta,
             sigma,
         };
+        let method = match self.method {
+            NELDER_MEAD => Method::NelderMead,
+            _ => Method::Multidirectional,
+        };
         Search::open(
+            method,
             self.n,
             &self.axes,
             self.named_rule(),
@@ -78,16 +85,34 @@ fn push_word(line: &mut String, word: u64) {
 }
 
 /// An opening that is not refused, for about so many tells.
-pub fn fitting(random: &mut Random, tells: u64) -> Opening {
+pub fn fitting(random: &mut Random, tells: u64, method: u64) -> Opening {
     let n = random.between(1, 8);
     let rule = random.below(4);
-    Opening {
+    let opening = Opening {
+        method,
         n,
         rule,
         threshold: threshold(random, rule),
         coefficients: coefficients(random),
         budget: budget(random, n, tells),
         axes: axes::records(random, n),
+    };
+    match method {
+        MULTIDIRECTIONAL => Opening {
+            rule: SIZE,
+            threshold: companions_size(random).to_bits(),
+            ..opening
+        },
+        _ => opening,
+    }
+}
+
+/// A size that is met after some halvings, each of which takes up to 2n tells; or any.
+fn companions_size(random: &mut Random) -> f64 {
+    match random.below(8) {
+        0 => size(random),
+        1 | 2 => random.within(0.01, 2.0),
+        _ => random.power(-7, 1),
     }
 }
 

@@ -3,6 +3,7 @@
 use crate::costs::Costs;
 use crate::courses;
 use crate::episodes;
+use crate::habits::Habit;
 use crate::held;
 use crate::limits;
 use crate::mild;
@@ -19,8 +20,8 @@ use crate::writes;
 const ROOM: usize = 16_384;
 
 /// A script with so many episodes, more or less.
-pub fn script(random: &mut Random, rings: bool) -> Script {
-    let mut script = Script::with(rings);
+pub fn script(random: &mut Random, habit: Habit) -> Script {
+    let mut script = Script::with(habit);
     if random.one_in(5) {
         closed(&mut script, random);
     }
@@ -32,8 +33,8 @@ pub fn script(random: &mut Random, rings: bool) -> Script {
 }
 
 /// A short script, to be damaged.
-pub fn short(random: &mut Random, rings: bool) -> Script {
-    let mut script = Script::with(rings);
+pub fn short(random: &mut Random, habit: Habit) -> Script {
+    let mut script = Script::with(habit);
     let episodes = random.between(1, 4);
     search(&mut script, random, episodes);
     script
@@ -59,8 +60,9 @@ fn search(script: &mut Script, random: &mut Random, episodes: u64) {
 
 fn open(script: &mut Script, random: &mut Random) -> Costs {
     let tells = random.between(20, 300);
-    let mut opening = openings::fitting(random, tells);
-    if script.rings {
+    let method = script.habit.next_method(random);
+    let mut opening = openings::fitting(random, tells, method);
+    if script.habit.rings {
         rings::put(random, &mut opening);
     }
     script.open(&opening);
@@ -93,7 +95,7 @@ pub fn measure(script: &mut Script, random: &mut Random, costs: &mut Costs) {
 }
 
 fn episode(script: &mut Script, random: &mut Random, costs: &mut Costs) {
-    if script.rings && random.one_in(3) {
+    if script.habit.rings && random.one_in(3) {
         return ring_writes::episode(script, random, costs);
     }
     match random.below(26) {
@@ -229,7 +231,7 @@ fn closed(script: &mut Script, random: &mut Random) {
     script.write([0, 0, n]);
     script.write([1, 0, random.between(1, 40)]);
     script.write([2, 0, 0]);
-    if script.rings {
+    if script.habit.rings {
         ring_writes::any(script, random);
     }
     mild::enter(script, random);

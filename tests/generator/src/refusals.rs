@@ -39,9 +39,9 @@ const NANS: [u64; 6] = [
     0x7ff8_0000_dead_beef,
 ];
 
-pub fn edged(random: &mut Random) -> Opening {
+pub fn edged(random: &mut Random, method: u64) -> Opening {
     let tells = random.between(10, 60);
-    let mut opening = openings::fitting(random, tells);
+    let mut opening = openings::fitting(random, tells, method);
     for _ in 0..random.pick(&[1, 1, 1, 2, 2, 3]) {
         random.pick(&DAMAGES)(random, &mut opening);
     }

@@ -41,7 +41,7 @@ pub const MALFORMED: [&str; 2] = ["o", "p"];
 #[derive(Clone, Default)]
 pub struct Rings {
     /// Coordinates of accepted asks on ring axes, by maker, phase and branch.
-    pub branches: [[[u64; 8]; 7]; 2],
+    pub branches: [[[u64; 8]; 12]; 2],
     /// Accepted asks of a build's step over the seam, by maker and build.
     pub seams: [[u64; 2]; 2],
     /// Accepted asks with a ring among their axes while another axis is at its stop, by maker.
@@ -175,10 +175,10 @@ pub fn malformed(line: &[u8], rings: &mut Rings) {
     let sound = line.len() > 1 && (line.len() - 1).is_multiple_of(17);
     let words = (line.len().saturating_sub(1)) / 17;
     match line.first() {
-        Some(b'o') if sound && words == 48 => {
+        Some(b'o') if sound && words == 49 => {
             let opening = Given::read(line);
             let above = (1..=8).any(|axis| opening.ring(axis) > 1);
-            rings.malformed[0] += u64::from(above && opening.0[1] <= 3);
+            rings.malformed[0] += u64::from(above && opening.0[0] <= 1 && opening.0[2] <= 3);
         }
         Some(b'p') if sound && words == 3 => {
             let [part, axis, value] = causes::words(line);
@@ -199,16 +199,16 @@ impl Given {
         let mut words: Vec<u64> = words
             .map(|word| u64::from_str_radix(word, 16).unwrap_or(u64::MAX))
             .collect();
-        words.resize(48, 0);
+        words.resize(49, 0);
         Given(words)
     }
 
     fn n(&self) -> u64 {
-        self.0[0].min(8)
+        self.0[1].min(8)
     }
 
     fn ring(&self, axis: u64) -> u64 {
-        self.0[7 + 5 * axis as usize]
+        self.0[8 + 5 * axis as usize]
     }
 
     fn is_ring(&self, axis: u64) -> bool {
@@ -217,7 +217,7 @@ impl Given {
 
     /// lo, hi, start and step.
     fn numbers(&self, axis: u64) -> [f64; 4] {
-        std::array::from_fn(|i| f64::from_bits(self.0[3 + 5 * axis as usize + i]))
+        std::array::from_fn(|i| f64::from_bits(self.0[4 + 5 * axis as usize + i]))
     }
 
     fn starts_at_hi(&self, axis: u64) -> bool {
@@ -241,7 +241,7 @@ impl Given {
         let n = self.n();
         let refused = |number| verdict == number && (1..=n).contains(&axis);
         let seam = (1..=8).contains(&axis) && self.at_seam(axis);
-        let signs = |axis| self.0[4 + 5 * axis as usize] != self.0[5 + 5 * axis as usize];
+        let signs = |axis| self.0[5 + 5 * axis as usize] != self.0[6 + 5 * axis as usize];
         let faulty = |axis| self.at_seam(axis) || self.bad_step(axis);
         [
             refused(13) && self.bad_step(axis),

@@ -18,6 +18,8 @@ const MOST_HUNG: u64 = 3;
 
 pub struct Run {
     pub seed: u64,
+    /// The method of the scripts, or none for both.
+    pub method: Option<u64>,
     pub scripts: u64,
     pub texts: u64,
     pub replay: OsString,
@@ -41,6 +43,7 @@ enum Kind {
 struct Case {
     kind: Kind,
     seed: u64,
+    method: Option<u64>,
     number: u64,
 }
 
@@ -54,7 +57,7 @@ impl Case {
 
     fn input(&self) -> Vec<u8> {
         match self.kind {
-            Kind::Script => scripts::script(self.seed, self.number),
+            Kind::Script => scripts::script(self.seed, self.number, self.method),
             Kind::Text => texts::text(self.seed, self.number),
         }
     }
@@ -80,6 +83,7 @@ impl Run {
             Some(Case {
                 kind,
                 seed: self.seed,
+                method: self.method,
                 number,
             })
         };

@@ -1,5 +1,6 @@
 //! A script as it grows, with the search that its calls have made so far.
 
+use crate::habits::{Habit, PLAIN};
 use crate::openings::Opening;
 use crate::state::{State, Written};
 use rival::{Search, Trial};
@@ -10,8 +11,8 @@ pub const LIMIT: usize = 262_144;
 pub struct Script {
     pub text: String,
     pub told: u64,
-    /// Whether its openings have rings.
-    pub rings: bool,
+    /// What its openings have in common.
+    pub habit: Habit,
     search: Search,
     /// Whether a part of the search was written.
     made_up: bool,
@@ -19,15 +20,15 @@ pub struct Script {
 
 impl Script {
     pub fn new() -> Script {
-        Script::with(false)
+        Script::with(PLAIN)
     }
 
-    /// A script whose openings have rings, or have none.
-    pub fn with(rings: bool) -> Script {
+    /// A script whose openings have a habit.
+    pub fn with(habit: Habit) -> Script {
         Script {
             text: String::new(),
             told: 0,
-            rings,
+            habit,
             search: Search::closed(),
             made_up: false,
         }
@@ -85,8 +86,9 @@ impl Script {
     }
 
     /// A series of searches of its own, which leaves the search as it is.
-    pub fn series(&mut self, n: u64, readings: u64) {
-        self.text.push_str(&format!("r {n:016x} {readings:016x}\n"));
+    pub fn series(&mut self, method: u64, n: u64, readings: u64) {
+        self.text
+            .push_str(&format!("r {method:016x} {n:016x} {readings:016x}\n"));
     }
 
     pub fn tell(&mut self, number: u64, cost: u64) {

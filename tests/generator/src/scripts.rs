@@ -2,6 +2,7 @@
 //! in two of five some or all axes are rings.
 
 use crate::courses::{self, Manner};
+use crate::habits::Habit;
 use crate::malformed;
 use crate::parts;
 use crate::random::Random;
@@ -9,26 +10,26 @@ use crate::script::{Script, LIMIT};
 use crate::seams;
 
 const KIND: u64 = 1;
-const RINGS: u64 = 3;
 
-pub fn script(seed: u64, number: u64) -> Vec<u8> {
+/// The script, of the method that is asked for, or of any.
+pub fn script(seed: u64, number: u64, method: Option<u64>) -> Vec<u8> {
     let mut random = Random::of(seed, KIND, number);
-    let rings = Random::of(seed, RINGS, number).below(100) < 40;
+    let habit = Habit::of(seed, number, method);
     match number {
-        0 => longest(&mut random),
-        1 => too_long(&mut random),
+        0 => longest(&mut random, habit),
+        1 => too_long(&mut random, habit),
         _ => match random.below(100) {
-            0..=21 => malformed::script(&mut random, rings),
-            22..=35 => openings(&mut random, rings),
-            36..=57 => parts::script(&mut random, rings).text.into_bytes(),
-            _ => searches(&mut random, rings),
+            0..=21 => malformed::script(&mut random, habit),
+            22..=35 => openings(&mut random, habit),
+            36..=57 => parts::script(&mut random, habit).text.into_bytes(),
+            _ => searches(&mut random, habit),
         },
     }
 }
 
 /// One to four searches that follow one another, few of them long, at times with refused openings or a series between.
-fn searches(random: &mut Random, rings: bool) -> Vec<u8> {
-    let mut script = Script::with(rings);
+fn searches(random: &mut Random, habit: Habit) -> Vec<u8> {
+    let mut script = Script::with(habit);
     let manner = random.pick(&[
         Manner::Quiet,
         Manner::Neat,
@@ -55,7 +56,8 @@ fn before(script: &mut Script, random: &mut Random) {
         courses::calls(script, random);
     }
     if random.one_in(60) {
-        script.series(random.between(1, 8), random.between(5_000, 20_000));
+        let method = script.habit.next_method(random);
+        script.series(method, random.between(1, 8), random.between(5_000, 20_000));
     }
 }
 
@@ -71,8 +73,8 @@ fn between(script: &mut Script, random: &mut Random) {
 }
 
 /// Openings at the edges, most of them refused, with a few calls after each.
-fn openings(random: &mut Random, rings: bool) -> Vec<u8> {
-    let mut script = Script::with(rings);
+fn openings(random: &mut Random, habit: Habit) -> Vec<u8> {
+    let mut script = Script::with(habit);
     for _ in 0..random.between(5, 30) {
         let opening = seams::edged(&script, random);
         script.open(&opening);
@@ -96,8 +98,8 @@ fn few_tells(script: &mut Script, random: &mut Random) {
 }
 
 /// A script of exactly the most bytes: long searches, then other calls to the last byte.
-fn longest(random: &mut Random) -> Vec<u8> {
-    let mut script = Script::new();
+fn longest(random: &mut Random, habit: Habit) -> Vec<u8> {
+    let mut script = Script::with(habit.without_rings());
     while script.text.len() < LIMIT - 60_000 {
         let tells = random.between(200, 1000);
         courses::course(&mut script, random, Manner::Quiet, tells);
@@ -117,8 +119,8 @@ fn fill(script: &mut Script) {
     }
 }
 
-fn too_long(random: &mut Random) -> Vec<u8> {
-    let mut text = longest(random);
+fn too_long(random: &mut Random, habit: Habit) -> Vec<u8> {
+    let mut text = longest(random, habit);
     text.push(b'\n');
     text
 }

@@ -11,16 +11,17 @@ use rival::Axis;
 
 /// An opening at an edge of the table of refusals; in a script with rings most often at that of 13.
 pub fn edged(script: &Script, random: &mut Random) -> Opening {
-    if !script.rings {
-        return refusals::edged(random);
+    let method = script.habit.next_method(random);
+    if !script.habit.rings {
+        return refusals::edged(random, method);
     }
     if random.one_in(3) {
-        let mut opening = refusals::edged(random);
+        let mut opening = refusals::edged(random, method);
         rings::put(random, &mut opening);
         return opening;
     }
     let tells = random.between(10, 60);
-    let mut opening = openings::fitting(random, tells);
+    let mut opening = openings::fitting(random, tells, method);
     rings::put(random, &mut opening);
     for _ in 0..random.pick(&[1, 1, 1, 2]) {
         at_hi(random, &mut opening);

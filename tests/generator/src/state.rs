@@ -1,5 +1,6 @@
 //! A search's parts, as the words of its state line, and where docs/REPLAY.md says what the calls answer.
 
+use crate::habits::NELDER_MEAD;
 use rival::replay::Replay;
 use rival::Search;
 
@@ -7,8 +8,11 @@ use rival::Search;
 pub type Written = [u64; 3];
 
 /// Where a place 0 of the standing simplex would begin, and one of the gathered simplex.
-const STANDING: usize = 66;
-const GATHERED: usize = 156;
+const STANDING: usize = 69;
+const GATHERED: usize = 159;
+
+/// Where the stops at a place 0 would stand.
+const STOPS: usize = 258;
 
 pub struct State(Vec<u64>);
 
@@ -17,29 +21,39 @@ impl State {
         State(search.words())
     }
 
-    pub fn n(&self) -> u64 {
+    /// The method: 0 for Nelder-Mead, 1 for the multidirectional search.
+    pub fn method(&self) -> u64 {
         self.0[0]
     }
 
+    pub fn n(&self) -> u64 {
+        self.0[1]
+    }
+
+    /// The stopping rule, 1 to 3, and its E.
+    pub fn rule(&self) -> [u64; 2] {
+        [self.0[2], self.0[3]]
+    }
+
     pub fn budget(&self) -> u64 {
-        self.0[7]
+        self.0[8]
     }
 
     pub fn phase(&self) -> u64 {
-        self.0[48]
-    }
-
-    pub fn detail(&self) -> u64 {
         self.0[49]
     }
 
-    pub fn readings(&self) -> u64 {
+    pub fn detail(&self) -> u64 {
         self.0[50]
     }
 
-    /// One of the seven counts, from 1.
+    pub fn readings(&self) -> u64 {
+        self.0[51]
+    }
+
+    /// One of the nine counts, from 1.
     pub fn count(&self, which: u64) -> u64 {
-        self.0[50 + which as usize]
+        self.0[51 + which as usize]
     }
 
     pub fn builds(&self) -> u64 {
@@ -48,41 +62,41 @@ impl State {
 
     /// The bits of lo and hi of an axis, from 1.
     pub fn limits(&self, axis: u64) -> [u64; 2] {
-        let lo = 3 + 5 * axis as usize;
+        let lo = 4 + 5 * axis as usize;
         [self.0[lo], self.0[lo + 1]]
     }
 
     /// The step of an axis, from 1.
     pub fn step(&self, axis: u64) -> f64 {
-        f64::from_bits(self.0[6 + 5 * axis as usize])
+        f64::from_bits(self.0[7 + 5 * axis as usize])
     }
 
     /// Whether an axis, from 1, is a ring: 1 or 0.
     pub fn ring(&self, axis: u64) -> u64 {
-        self.0[7 + 5 * axis as usize]
+        self.0[8 + 5 * axis as usize]
     }
 
     /// α, χ, β and σ.
     pub fn coefficients(&self) -> [f64; 4] {
-        std::array::from_fn(|i| f64::from_bits(self.0[3 + i]))
+        std::array::from_fn(|i| f64::from_bits(self.0[4 + i]))
     }
 
     /// The coordinates' bits of the best reading.
     pub fn best_point(&self) -> &[u64] {
-        &self.0[58..66]
+        &self.0[61..69]
     }
 
     /// The coordinates' bits of the point that a build goes around.
     pub fn center(&self) -> &[u64] {
-        &self.0[68..76]
+        &self.0[71..79]
     }
 
     pub fn best(&self) -> u64 {
-        self.0[66]
+        self.0[69]
     }
 
     pub fn best_number(&self) -> u64 {
-        self.0[67]
+        self.0[70]
     }
 
     /// The cost at a place of the standing simplex, from 1.
@@ -110,6 +124,11 @@ impl State {
 
     pub fn gathered_point(&self, place: u64) -> &[u64] {
         &self.vertex(GATHERED, place)[..8]
+    }
+
+    /// The stops at a place, from 1.
+    pub fn stops(&self, place: u64) -> u64 {
+        self.0[STOPS + place as usize]
     }
 
     /// The words of a place, from 1: eight coordinates' bits, the cost and the number.
@@ -157,21 +176,39 @@ impl State {
             12 => [12, which, self.gathered_number(which)],
             13 => [13, 0, self.best_number()],
             14 => [14, which, self.ring(which)],
-            _ => [8, self.0[1], self.0[2]],
+            15 => [15, 0, self.method()],
+            16 => [16, which, self.stops(which)],
+            _ => [8, self.0[2], self.0[3]],
         }
     }
 
     /// The most by which the cost at one of places 1 to n is above that of the next.
     pub fn standing_fall(&self) -> i128 {
-        let fall = |i| i128::from(self.standing(i)) - i128::from(self.standing(i + 1));
-        (1..=self.n().min(8)).map(fall).max().unwrap_or(0)
+        fall(self.n().min(8), |place| self.standing(place))
     }
 
-    /// Whether the calls' answers are fixed: no iteration is under way over places out of cost order, with no number at place 1.
-    pub fn is_fixed(&self) -> bool {
-        let unread = self.standing_number(1) == 0 && (1..=5).contains(&self.phase());
-        !unread || self.standing_fall() <= 0
+    /// The same of the gathered places that a build or a shrink has.
+    fn gathered_fall(&self) -> i128 {
+        let vertices = self.gathered_vertices();
+        fall(vertices.saturating_sub(1), |place| self.gathered(place))
     }
+
+    /// Whether the calls' answers are fixed: nothing is to be inserted among places out of cost order. In Nelder-Mead 12 refuses these but
+    /// where an iteration is under way and place 1 has no number; in the multidirectional search 12 refuses none.
+    pub fn is_fixed(&self) -> bool {
+        let inserts = (1..=5).contains(&self.phase());
+        if self.method() == NELDER_MEAD {
+            return !inserts || self.standing_number(1) != 0 || self.standing_fall() <= 0;
+        }
+        let gathers = [0, 5].contains(&self.phase());
+        !(inserts && self.standing_fall() > 0 || gathers && self.gathered_fall() > 0)
+    }
+}
+
+/// The most by which the cost at one of so many places is above that of the next.
+fn fall(places: u64, cost: impl Fn(u64) -> u64) -> i128 {
+    let fall = |place| i128::from(cost(place)) - i128::from(cost(place + 1));
+    (1..=places.min(8)).map(fall).max().unwrap_or(0)
 }
 
 pub fn writes_parts(script: &[u8]) -> bool {

@@ -23,7 +23,7 @@ pub type Row = [u64; 9];
 #[derive(Clone, Default)]
 pub struct Stops {
     /// By origin, phase and n, from 1.
-    rows: [[[Row; 8]; 7]; 3],
+    rows: [[[Row; 8]; 12]; 3],
 }
 
 impl Stops {

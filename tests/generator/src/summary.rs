@@ -9,7 +9,7 @@ use crate::trace_summary;
 const LEAST_TELLS: u64 = 200_000;
 const LEAST_TEXTS: u64 = 2_000;
 
-pub const PHASES: [&str; 9] = [
+pub const PHASES: [&str; 12] = [
     "building",
     "reflecting",
     "expanding",
@@ -19,6 +19,9 @@ pub const PHASES: [&str; 9] = [
     "probing",
     "settled",
     "budget",
+    "base",
+    "reflection",
+    "companion",
 ];
 const PIECES: [&str; 6] = [
     "builds",
@@ -190,7 +193,7 @@ fn most_by_calls(phase: usize, n: usize) -> usize {
 
 /// Every refusal from 1 to 11 that a script can meet.
 fn refusals_needed(c: &Coverage) -> Vec<Need> {
-    let openings = [1, 2, 3, 4, 5, 6, 7, 13];
+    let openings = [1, 2, 3, 4, 5, 6, 7, 13, 14];
     let axes = [1, 2, 3, 4, 5, 6, 7, 8];
     [
         each_number("openings refused by", &openings, &c.openings.refused),

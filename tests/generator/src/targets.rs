@@ -68,6 +68,9 @@ pub fn target(state: &State, axis: u64) -> f64 {
         3 => c + beta * (r() - c),
         4 => c + beta * (place(state.n() + 1) - c),
         5 => place(1) + sigma * (place(state.detail() + 1) - place(1)),
+        9 => at(state.center(), axis),
+        10 => place(1) + (place(1) - place(state.detail() + 1)),
+        11 => place(state.detail() + 1),
         _ => probed(state, axis),
     }
 }

@@ -4,6 +4,7 @@ use crate::axes;
 use crate::costs::{Costs, DARK};
 use crate::courses;
 use crate::damage::damage;
+use crate::habits::NELDER_MEAD;
 use crate::openings::{self, Opening, MOST_BUDGET, MOST_SPREAD, SPREAD, USUAL};
 use crate::random::Random;
 use crate::refusals;
@@ -57,6 +58,7 @@ fn fitting(random: &mut Random, tells: u64) -> Opening {
     };
     let threshold = openings::spread(random);
     Opening {
+        method: NELDER_MEAD,
         n,
         rule: SPREAD,
         threshold,

@@ -31,7 +31,7 @@ pub struct Traces {
     /// Those of e that take r, by maker.
     pub taken: [u64; 2],
     /// Accepted tells of a cost equal to the best's, by maker and phase.
-    pub equal: [[u64; 7]; 2],
+    pub equal: [[u64; 12]; 2],
     /// Calls over standing places out of order that are accepted since place 1 has no number, by builds and call.
     pub unread: [[u64; 3]; 2],
     /// Calls refused for that order alone, since it has one.
@@ -39,7 +39,7 @@ pub struct Traces {
     /// Accepted tells of a build without a vertex in made-up searches, by builds.
     pub first: [u64; 2],
     /// State lines of made-up searches, by phase.
-    pub shown: [u64; 9],
+    pub shown: [u64; 12],
 }
 
 impl Traces {
