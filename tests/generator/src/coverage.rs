@@ -2,6 +2,7 @@
 
 use crate::causes::{Causes, Watch};
 use crate::ends::{self, Ends};
+use crate::iterations::{Counter, Iterations};
 use crate::ring_counts::{self, Follower, Rings};
 use crate::stops::{Origin, Stops};
 use crate::traces::{Tracer, Traces};
@@ -59,6 +60,7 @@ pub struct Coverage {
     pub stops: Stops,
     pub traces: Traces,
     pub rings: Rings,
+    pub iterations: Iterations,
     /// `s` lines of opened searches by phase, while no part is written.
     pub phases: [u64; 12],
     /// Searches that were last shown ended, settled and by the budget.
@@ -99,6 +101,7 @@ impl Coverage {
         let mut origin = Origin::default();
         let mut tracer = Tracer::default();
         let mut follower = Follower::default();
+        let mut counter = Counter::default();
         let answers = transcript.split(|b| *b == b'\n');
         for (line, answer) in script.split(|b| *b == b'\n').zip(answers) {
             if line.is_empty() || line.first() != answer.first() {
@@ -109,6 +112,7 @@ impl Coverage {
             let verdict = word(answer, 0);
             watch.see(line, verdict, replay.search(), &mut self.causes);
             tracer.see(line, verdict, replay.search(), &mut self.traces);
+            counter.see(line, verdict, replay.search(), &mut self.iterations);
             let words: [u64; 11] = std::array::from_fn(|at| word(answer, at));
             follower.see(line, &words, replay.search(), &mut self.rings);
             origin.see(line);
@@ -217,6 +221,7 @@ impl Coverage {
         self.stops.join(&other.stops);
         self.traces.join(&other.traces);
         self.rings.join(&other.rings);
+        self.iterations.join(&other.iterations);
         add_all(&mut self.phases, &other.phases);
         add_all(&mut self.endings, &other.endings);
         add_all(&mut self.pieces, &other.pieces);

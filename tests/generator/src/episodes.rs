@@ -1,6 +1,7 @@
 //! Two kinds of made-up searches that chance alone seldom meets: points outside the limits, and thresholds at the edge.
 
 use crate::costs::DARK;
+use crate::habits::MULTIDIRECTIONAL;
 use crate::openings::{MOST_SPREAD, MOVED, SIZE, SPREAD};
 use crate::random::Random;
 use crate::script::Script;
@@ -39,18 +40,34 @@ pub fn at_a_threshold(script: &mut Script, random: &mut Random) {
         return;
     }
     let n = script.state().n();
-    if random.one_in(2) {
+    let own = script.state().method() == MULTIDIRECTIONAL;
+    if own {
+        halving(script, random);
+    } else if random.one_in(2) {
         script.write([4, 5, random.between(1, n)]);
     }
     let most = random.pick(&[5, 100, DARK]);
     let costs: Vec<u64> = (0..n + 3).map(|_| random.between(0, most)).collect();
-    let rule = random.pick(&[SPREAD, MOVED, MOVED, SIZE]);
+    let rule = match own {
+        true => SIZE,
+        false => random.pick(&[SPREAD, MOVED, MOVED, SIZE]),
+    };
     if let Some(line) = threshold(random, script.search(), rule, &costs) {
         script.write(line);
     }
     for cost in costs {
         script.tell(script.next_number(), cost);
         script.ask();
+    }
+}
+
+/// In half of the searches the last companion is asked that is unread, so that it swaps or all are halved.
+fn halving(script: &mut Script, random: &mut Random) {
+    let state = script.state();
+    let unread = (1..=state.n()).rfind(|i| state.standing_number(i + 1) == 0);
+    if let Some(i) = unread.filter(|_| random.one_in(2)) {
+        script.write([4, 11, i]);
+        script.write([5, 1, random.pick(&[0, 3, DARK])]);
     }
 }
 
@@ -95,6 +112,6 @@ fn meets(search: &Search, [part, which, value]: Written, costs: &[u64]) -> bool 
 
 /// The builds and iterations that are finished.
 fn finished(state: &State) -> u64 {
-    let counts = (1..=5).map(|which| state.count(which));
-    counts.fold(0, u64::wrapping_add)
+    let counts = [1, 2, 3, 4, 5, 8].map(|which| state.count(which));
+    counts.into_iter().fold(0, u64::wrapping_add)
 }

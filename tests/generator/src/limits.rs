@@ -59,7 +59,7 @@ pub fn go_on_within(
 }
 
 /// Limits of all axes up to n and of some past n, or of a few axes.
-fn bound(script: &mut Script, random: &mut Random) {
+pub fn bound(script: &mut Script, random: &mut Random) {
     let n = script.state().n();
     let asked = unclamped(script.search());
     let at_stops = random.between(0, n);

@@ -3,6 +3,8 @@
 mod axes;
 mod bowls;
 mod causes;
+mod companion_writes;
+mod companions;
 mod corners;
 mod costs;
 mod courses;
@@ -13,6 +15,8 @@ mod ends;
 mod episodes;
 mod habits;
 mod held;
+mod iteration_summary;
+mod iterations;
 mod limits;
 mod malformed;
 mod mild;

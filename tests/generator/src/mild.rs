@@ -62,6 +62,10 @@ pub fn phase(random: &mut Random, state: &State) -> Written {
     }
 }
 
+pub fn phase_of_probe(random: &mut Random, state: &State) -> Written {
+    [4, 6, random.below(2 * state.n().clamp(1, 8))]
+}
+
 /// A cost at the first gathered place, about one that stands.
 fn held_cost(random: &mut Random, state: &State) -> Written {
     let held = state.standing(random.between(1, state.n().clamp(1, 8) + 1));
@@ -69,18 +73,18 @@ fn held_cost(random: &mut Random, state: &State) -> Written {
 }
 
 fn mild_count(random: &mut Random, state: &State) -> Written {
-    let which = random.between(1, 7);
+    let which = random.between(1, 9);
     let value = random.pick(&[0, 0, 1, state.budget().wrapping_sub(1), state.budget()]);
     [3, which, value]
 }
 
-fn mild_readings(random: &mut Random, state: &State) -> Written {
+pub fn mild_readings(random: &mut Random, state: &State) -> Written {
     let any = random.below(state.budget().max(1));
     [2, 0, random.pick(&[0, 0, 0, any])]
 }
 
 /// A budget that is about to be spent.
-fn last_budget(random: &mut Random, state: &State) -> Written {
+pub fn last_budget(random: &mut Random, state: &State) -> Written {
     [1, 0, state.readings().wrapping_add(random.between(1, 6))]
 }
 

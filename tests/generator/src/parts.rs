@@ -3,7 +3,8 @@
 use crate::costs::Costs;
 use crate::courses;
 use crate::episodes;
-use crate::habits::Habit;
+use crate::companions;
+use crate::habits::{Habit, MULTIDIRECTIONAL};
 use crate::held;
 use crate::limits;
 use crate::mild;
@@ -71,7 +72,10 @@ fn open(script: &mut Script, random: &mut Random) -> Costs {
 
 /// Tells until the search is in some phase, with some vertices or probes, or for so many tells.
 fn lead(script: &mut Script, random: &mut Random, costs: &mut Costs) {
-    let phase = random.below(7);
+    let phase = match script.state().method() {
+        MULTIDIRECTIONAL => random.pick(&[10, 10, 11, 11, 6]),
+        _ => random.below(7),
+    };
     let detail = random.pick(&[0, 0, 1, 2, 2, 3]);
     for _ in 0..random.between(0, 30) {
         let state = script.state();
@@ -95,7 +99,14 @@ pub fn measure(script: &mut Script, random: &mut Random, costs: &mut Costs) {
 }
 
 fn episode(script: &mut Script, random: &mut Random, costs: &mut Costs) {
-    if script.habit.rings && random.one_in(3) {
+    let own = script.state().method() == MULTIDIRECTIONAL;
+    if own && random.below(4) < 3 {
+        return companions::episode(script, random, costs);
+    }
+    if !own && random.one_in(20) {
+        return companions::under_nelder_mead(script, random, costs);
+    }
+    if script.habit.rings && !own && random.one_in(3) {
         return ring_writes::episode(script, random, costs);
     }
     match random.below(26) {
@@ -115,7 +126,7 @@ fn episode(script: &mut Script, random: &mut Random, costs: &mut Costs) {
 }
 
 /// One line, calls, and most often what undoes it.
-fn written(script: &mut Script, random: &mut Random, costs: &mut Costs, line: Written) {
+pub fn written(script: &mut Script, random: &mut Random, costs: &mut Costs, line: Written) {
     let undo = script.state().undoing(line);
     script.write(line);
     calls(script, random, costs);

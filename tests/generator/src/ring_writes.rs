@@ -83,7 +83,7 @@ fn around_no_number(script: &mut Script, random: &mut Random) {
 }
 
 /// Rings and limits of all axes up to n and of some past n, or of a few axes.
-fn bound(script: &mut Script, random: &mut Random) {
+pub fn bound(script: &mut Script, random: &mut Random) {
     let n = script.state().n();
     let few = random.one_in(3);
     let mut order: Vec<u64> = (1..=n).collect();

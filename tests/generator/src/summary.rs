@@ -2,6 +2,7 @@
 
 use crate::causes::{Causes, CALLS, CAUSES};
 use crate::coverage::{Coverage, ENDS};
+use crate::iteration_summary;
 use crate::ring_summary;
 use crate::stops::{Stops, ORIGINS};
 use crate::trace_summary;
@@ -57,6 +58,7 @@ pub fn print(c: &Coverage) {
     trace_summary::print(&c.traces, &c.text_named);
     print_stops(&c.stops);
     ring_summary::print(&c.rings);
+    iteration_summary::print(&c.iterations);
     print_texts(c);
 }
 
@@ -129,6 +131,7 @@ pub fn missing(c: &Coverage) -> Vec<String> {
         stops_needed(&c.stops),
         trace_summary::needed(&c.traces, &c.text_named),
         ring_summary::needed(&c.rings),
+        iteration_summary::needed(&c.iterations),
         searches_needed(c),
         texts_needed(c),
     ]

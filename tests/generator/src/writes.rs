@@ -69,7 +69,7 @@ fn axes(random: &mut Random, state: &State) -> Written {
 
 fn budget(random: &mut Random, state: &State) -> Written {
     let told = state.readings();
-    let most = (1..=7).map(|which| state.count(which)).max().unwrap_or(0);
+    let most = (1..=9).map(|which| state.count(which)).max().unwrap_or(0);
     let counted = about(random, most);
     let huge = random.pick(&HUGE);
     let next = told.wrapping_add(1);
@@ -107,7 +107,7 @@ fn count(random: &mut Random, state: &State) -> Written {
     let beyond = budget.wrapping_add(1);
     let huge = random.pick(&HUGE);
     let value = random.pick(&[budget, budget, beyond, beyond, 0, 1, huge]);
-    [3, random.between(1, 7), value]
+    [3, random.between(1, 9), value]
 }
 
 fn spread(random: &mut Random, _: &State) -> Written {
