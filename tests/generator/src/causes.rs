@@ -1,13 +1,14 @@
 //! The causes of refusal 12, counted: how often one past its edge a call was refused, and how often at its edge a call was accepted. A
 //! cause counts where one line that writes a part is all that stands between a sound search and the call.
 
+use crate::companion_edges as companions;
 use crate::costs::DARK;
 use crate::openings::{MOST_BUDGET, MOST_SPREAD, SPREAD};
 use crate::orders;
 use crate::state::{State, Written};
 use rival::Search;
 
-pub const CAUSES: [&str; 26] = [
+pub const CAUSES: [&str; 39] = [
     "n below",
     "n above",
     "readings not below the budget",
@@ -18,6 +19,8 @@ pub const CAUSES: [&str; 26] = [
     "shrinks above the budget",
     "probes above the budget",
     "open above the budget",
+    "multidirectional iterations above the budget",
+    "readings in those above the budget",
     "budget above 1,000,000",
     "spread E",
     "build number above n",
@@ -34,7 +37,25 @@ pub const CAUSES: [&str; 26] = [
     "cost of gathered place",
     "cost past the gathered ones",
     "best's cost",
+    "reflection number 0",
+    "reflection number above n",
+    "companion number 0",
+    "companion number above n",
+    "companion that is read",
+    "companion that is read, by its number",
+    "companion below lo",
+    "companion above hi",
+    "companion at hi of a ring",
+    "companion, a limit no number",
+    "another rule",
 ];
+
+/// Causes that have no edge: what is written there is the cause, or it is none.
+const WITHOUT_EDGE: [&str; 1] = ["companion, a limit no number"];
+
+pub fn has_edge(cause: &str) -> bool {
+    !WITHOUT_EDGE.contains(&cause)
+}
 
 /// A cause of two parts.
 const LATE: &str = CAUSES[2];
@@ -42,7 +63,7 @@ const LATE: &str = CAUSES[2];
 /// Calls at ask, tell and best.
 pub const CALLS: [&str; 3] = ["ask", "tell", "best"];
 
-#[derive(Clone, Default)]
+#[derive(Clone)]
 pub struct Causes {
     /// Refused with 12 one past the edge, by cause and call.
     pub refused: [[u64; 3]; CAUSES.len()],
@@ -50,6 +71,16 @@ pub struct Causes {
     pub accepted: [[u64; 3]; CAUSES.len()],
     /// Accepted tells of searches of which a part was written before, by phase.
     pub made_up: [u64; 12],
+}
+
+impl Default for Causes {
+    fn default() -> Causes {
+        Causes {
+            refused: [[0; 3]; CAUSES.len()],
+            accepted: [[0; 3]; CAUSES.len()],
+            made_up: [0; 12],
+        }
+    }
 }
 
 impl Causes {
@@ -173,11 +204,16 @@ fn met(state: &State, line: Written) -> Vec<Met> {
         11 => ("standing order, by its number", past),
         _ => ("gathered order", past),
     });
+    let companions = companions::met(state, line);
     let met = |(name, past)| {
         let cause = CAUSES.iter().position(|cause| *cause == name);
         cause.map(|cause| Met { cause, past })
     };
-    at_edges.chain(in_order).filter_map(met).collect()
+    at_edges
+        .chain(in_order)
+        .chain(companions)
+        .filter_map(met)
+        .collect()
 }
 
 /// The causes of a part, each with its edge.
@@ -225,6 +261,14 @@ fn phase_edges(state: &State, phase: u64) -> Vec<(&'static str, Edge)> {
             ("shrink number above n", Edge::Most(n)),
         ],
         6 => vec![("probe number", Edge::Most(2 * n - 1))],
+        10 => vec![
+            ("reflection number 0", Edge::Least(1)),
+            ("reflection number above n", Edge::Most(n)),
+        ],
+        11 => vec![
+            ("companion number 0", Edge::Least(1)),
+            ("companion number above n", Edge::Most(n)),
+        ],
         _ => vec![],
     };
     if phase == 0 && state.readings() > 0 {

@@ -3,14 +3,17 @@
 
 use crate::axes::RANGE;
 use crate::costs::Costs;
+use crate::habits::MULTIDIRECTIONAL;
 use crate::openings::{Opening, MOST_BUDGET, MOST_SPREAD, MOVED, SIZE, SPREAD};
 use crate::random::Random;
+use crate::state::State;
 
 type Point = [f64; 8];
 
 /// Sets the threshold of the opening's rule, and answers the costs that meet it.
 pub fn plan(random: &mut Random, opening: &mut Opening) -> Vec<u64> {
     match opening.rule {
+        _ if opening.method == MULTIDIRECTIONAL => companions(random, opening),
         SPREAD => spread(random, opening),
         MOVED => moved(random, opening),
         SIZE => size(random, opening),
@@ -218,4 +221,46 @@ fn size(random: &mut Random, opening: &mut Opening) -> Vec<u64> {
         });
     }
     costs
+}
+
+/// Costs that end one to three multidirectional iterations, each by a swap or a halving, and the size that the companions have then.
+fn companions(random: &mut Random, opening: &mut Opening) -> Vec<u64> {
+    let mut costs = Vec::new();
+    let unmet = Opening {
+        threshold: f64::from_bits(1).to_bits(),
+        budget: MOST_BUDGET,
+        ..*opening
+    };
+    let Ok(mut search) = unmet.open() else {
+        return costs;
+    };
+    let iterations = random.between(1, 3);
+    let odds = random.pick(&[2, 2 * opening.n + 1, 1000, 1000]);
+    let mut base = 100;
+    let mut state = State::of(&search);
+    while state.count(8) < iterations && search.ask().is_ok() {
+        let lower = !costs.is_empty() && random.one_in(odds);
+        base -= u64::from(lower);
+        costs.push(base + u64::from(!lower) * random.below(2));
+        let _ = search.tell(costs.len() as u64, costs[costs.len() - 1]);
+        base = State::of(&search).best();
+        state = State::of(&search);
+    }
+    opening.threshold = size_of(random, &state);
+    costs
+}
+
+/// The least size that the base and its companions meet, or one beside it.
+fn size_of(random: &mut Random, state: &State) -> u64 {
+    let point = |place| -> Point {
+        let bits = state.standing_point(place);
+        std::array::from_fn(|axis| f64::from_bits(bits[axis]))
+    };
+    let base = point(1);
+    let scale = distance(0.0, &base, &[0.0; 8]).max(1.0);
+    let far = (2..=state.n() + 1).map(|place| distance(0.0, &point(place), &base));
+    let farthest = far.fold(0.0, f64::max);
+    about(random, (farthest / scale).sqrt(), |e| {
+        farthest <= (e * e) * scale
+    })
 }

@@ -3,6 +3,7 @@
 mod axes;
 mod bowls;
 mod causes;
+mod companion_edges;
 mod companion_writes;
 mod companions;
 mod corners;

@@ -1,14 +1,15 @@
 //! The summary of rings, and what the gate's run has to cover of them.
 
 use crate::ring_counts::{Rings, BRANCHES, MAKERS, MALFORMED, OPENINGS, SEAMS};
-use crate::summary::{aligned, each_name, named, Need, PHASES};
+use crate::summary::{aligned, each_name, named, Need, ASKED, PHASES};
 
 const YES: bool = true;
 const NO: bool = false;
 
 /// Whether calls alone can come to a branch, by phase. A build's step goes up from a point on the ring; a shrunk vertex lies between two
-/// such; a contraction lies between c and such a point, and c is past an end only where a sum is rounded.
-const BY_CALLS: [[bool; 8]; 7] = [
+/// such; a contraction lies between c and such a point, and c is past an end only where a sum is rounded. The
+/// start is on the ring, and an unread companion was brought round when it was made.
+const BY_CALLS: [[bool; 8]; 10] = [
     [YES, NO, YES, NO, YES, YES, NO, NO],
     [YES, YES, YES, YES, YES, YES, NO, NO],
     [YES, YES, YES, YES, YES, YES, NO, YES],
@@ -16,6 +17,9 @@ const BY_CALLS: [[bool; 8]; 7] = [
     [YES, YES, YES, YES, YES, YES, NO, NO],
     [YES, NO, NO, NO, NO, NO, NO, NO],
     [YES, YES, YES, YES, YES, YES, NO, NO],
+    [YES, NO, NO, NO, NO, NO, NO, NO],
+    [YES, YES, YES, YES, YES, YES, NO, NO],
+    [YES, NO, NO, NO, NO, NO, NO, NO],
 ];
 
 /// What all searches together have.
@@ -31,7 +35,8 @@ pub fn print(rings: &Rings) {
         BRANCHES.join(", "),
         MAKERS[0]
     );
-    for (phase, name) in PHASES[..7].iter().enumerate() {
+    for phase in ASKED {
+        let name = PHASES[phase];
         let alone = aligned(&rings.branches[0][phase]);
         println!("  {name:10} {alone}; {}", aligned(&all(rings, phase)));
     }
@@ -75,7 +80,8 @@ pub fn needed(rings: &Rings) -> Vec<Need> {
 /// Every branch of every phase, and of searches that calls alone made where these can come to it.
 fn branches_needed(rings: &Rings) -> Vec<Need> {
     let mut needs = Vec::new();
-    for (phase, name) in PHASES[..7].iter().enumerate() {
+    for (phase, by_calls) in ASKED.into_iter().zip(BY_CALLS) {
+        let name = PHASES[phase];
         let whole = all(rings, phase);
         for (i, branch) in BRANCHES.iter().enumerate() {
             let alone = rings.branches[0][phase][i];
@@ -83,7 +89,7 @@ fn branches_needed(rings: &Rings) -> Vec<Need> {
             if can {
                 needs.push((format!("ring {branch}, {name}"), whole[i], 1));
             }
-            if BY_CALLS[phase][i] {
+            if by_calls[i] {
                 let what = format!("ring {branch}, {name}, {}", MAKERS[0]);
                 needs.push((what, alone, 1));
             } else if alone > 0 {

@@ -1,6 +1,6 @@
 //! The summary of what a run covered, and what the gate's run has to cover.
 
-use crate::causes::{Causes, CALLS, CAUSES};
+use crate::causes::{self, Causes, CALLS, CAUSES};
 use crate::coverage::{Coverage, ENDS};
 use crate::iteration_summary;
 use crate::ring_summary;
@@ -62,11 +62,15 @@ pub fn print(c: &Coverage) {
     print_texts(c);
 }
 
+/// The phases in which a trial is asked, by their numbers.
+pub const ASKED: [usize; 10] = [0, 1, 2, 3, 4, 5, 6, 9, 10, 11];
+
 /// One line for each phase and n: accepted asks with 0 to n axes at their stops, apart by what made the search.
 fn print_stops(stops: &Stops) {
     let origins = ORIGINS.join("; ");
     println!("asks accepted with 0 to n axes at their stops, by phase and n: {origins}");
-    for (phase, name) in PHASES[..7].iter().enumerate() {
+    for phase in ASKED {
+        let name = PHASES[phase];
         for n in 1..=8 {
             let row = |origin| aligned(&stops.row(origin, phase, n)[..=n]);
             println!("  {name:10} {n} {}", [0, 1, 2].map(row).join("; "));
@@ -86,7 +90,7 @@ fn print_causes(c: &Coverage) {
     println!("refusal 12 one past its edge at {calls}; accepted at its edge at {calls}");
     let counts = c.causes.refused.iter().zip(&c.causes.accepted);
     for (cause, (refused, accepted)) in CAUSES.iter().zip(counts) {
-        println!("  {cause:40} {}; {}", aligned(refused), aligned(accepted));
+        println!("  {cause:46} {}; {}", aligned(refused), aligned(accepted));
     }
 }
 
@@ -154,6 +158,12 @@ pub fn each_name(what: &str, names: &[&str], counts: &[u64]) -> Vec<Need> {
     names.iter().zip(counts).map(need).collect()
 }
 
+/// Each phase that asks once at least.
+pub fn each_asked(what: &str, counts: &[u64; 12]) -> Vec<Need> {
+    let need = |phase: usize| (format!("{what} {}", PHASES[phase]), counts[phase], 1);
+    ASKED.into_iter().map(need).collect()
+}
+
 /// Every cause of refusal 12, one past its edge at each call, and its edge at ask and tell.
 fn causes_needed(causes: &Causes) -> Vec<Need> {
     let mut needs = Vec::new();
@@ -161,7 +171,9 @@ fn causes_needed(causes: &Causes) -> Vec<Need> {
     for (cause, (refused, accepted)) in CAUSES.iter().zip(counts) {
         needs.extend(each_name(&format!("{cause}, refused at"), &CALLS, refused));
         let edge = format!("{cause}, accepted at its edge at");
-        needs.extend(each_name(&edge, &CALLS[..2], accepted));
+        if causes::has_edge(cause) {
+            needs.extend(each_name(&edge, &CALLS[..2], accepted));
+        }
     }
     needs
 }
@@ -169,7 +181,8 @@ fn causes_needed(causes: &Causes) -> Vec<Need> {
 /// Every count of stops from 0 to n, for each n in each phase; and where calls alone can make them, of searches that they made.
 fn stops_needed(stops: &Stops) -> Vec<Need> {
     let mut needs = Vec::new();
-    for (phase, name) in PHASES[..7].iter().enumerate() {
+    for phase in ASKED {
+        let name = PHASES[phase];
         for n in 1..=8 {
             let what = format!("{name} on {n} axes with stops");
             let all: Vec<usize> = (0..=n).collect();
@@ -184,11 +197,13 @@ fn stops_needed(stops: &Stops) -> Vec<Need> {
 
 /// The most stops that a trial has in a phase of a search that calls made. A build and a probe move one axis, and all others are within
 /// their limits. A shrunk vertex lies between two vertices, also as it is rounded. A contraction lies between c and a vertex or r, and c is
-/// past a limit only where a sum of n coordinates rounds so, which sums of 1, 2 and 4 do not.
+/// past a limit only where a sum of n coordinates rounds so, which sums of 1, 2 and 4 do not. Two of a base and its companions differ on two
+/// axes at most: those along which the build made them.
 fn most_by_calls(phase: usize, n: usize) -> usize {
     match PHASES[phase] {
         "building" | "probing" => 1,
-        "shrinking" => 0,
+        "shrinking" | "base" => 0,
+        "reflection" | "companion" => n.min(2),
         "outside" | "inside" if [1, 2, 4].contains(&n) => 0,
         _ => n,
     }
@@ -228,7 +243,7 @@ fn searches_needed(c: &Coverage) -> Vec<Need> {
         each_name("states shown", &PHASES, &c.phases),
         each_name("finished", &PIECES, &c.pieces),
         each_name("met", &met, &others),
-        each_name("made-up searches told", &PHASES, &c.causes.made_up),
+        each_asked("made-up searches told", &c.causes.made_up),
     ]
     .concat()
 }

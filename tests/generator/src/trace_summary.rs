@@ -2,7 +2,7 @@
 
 use crate::causes::CALLS;
 use crate::ends::{Ends, NAMED};
-use crate::summary::{aligned, each_name, named, Need, PHASES};
+use crate::summary::{aligned, each_asked, each_name, named, Need, PHASES};
 use crate::traces::{Traces, BUILDS, MAKERS, MARGINS, PARTS, VALUES, WRITTEN};
 
 /// State lines that each phase of a made-up search has to have.
@@ -67,7 +67,10 @@ pub fn needed(traces: &Traces, ends: &Ends) -> Vec<Need> {
     needs.extend(each_name("r taken after e,", &MAKERS, &traces.taken));
     for (maker, counts) in MAKERS.iter().zip(&traces.equal) {
         let what = format!("equal to the best, {maker},");
-        needs.extend(each_name(&what, &PHASES, counts));
+        // By calls alone nothing is told before the base.
+        let told = each_asked(&what, counts);
+        let by_calls = |need: &Need| *maker == MAKERS[1] || !need.0.ends_with("base");
+        needs.extend(told.into_iter().filter(by_calls));
     }
     for (builds, (unread, read)) in BUILDS.iter().zip(traces.unread.iter().zip(&traces.read)) {
         needs.extend(each_name(
