@@ -102,7 +102,11 @@ fn hold(script: &mut Script, random: &mut Random) {
         let most = (2..=n + 1).map(at).fold(f64::NEG_INFINITY, f64::max);
         let lo = random.pick(&[least, least, least.next_down(), least - 0.1]);
         let hi = random.pick(&[most, most, most.next_up(), most + 0.1]);
-        let above = if state.ring(axis) == 1 { hi.next_up() } else { hi };
+        let above = if state.ring(axis) == 1 {
+            hi.next_up()
+        } else {
+            hi
+        };
         script.write([LO, axis, lo.to_bits()]);
         script.write([HI, axis, above.to_bits()]);
     }

@@ -4,6 +4,7 @@ use crate::corners;
 use crate::costs::{Costs, DARK};
 use crate::edges;
 use crate::habits::NELDER_MEAD;
+use crate::narrows;
 use crate::openings::{self, Opening};
 use crate::random::Random;
 use crate::rings;
@@ -35,11 +36,14 @@ pub fn usual_tells(random: &mut Random) -> u64 {
     }
 }
 
-/// A search opened and led for so many tells, or to its end; one in six runs into a corner, and all its trials are asked.
+/// A search opened and led for so many tells, or to its end; one in five runs into a corner, and all its trials are asked.
 pub fn course(script: &mut Script, random: &mut Random, manner: Manner, tells: u64) {
     let method = script.habit.next_method(random);
-    if random.one_in(6) && method == NELDER_MEAD {
-        let (opening, costs) = corners::search(random);
+    if random.one_in(5) {
+        let (opening, costs) = match method {
+            NELDER_MEAD => corners::search(random),
+            _ => narrows::search(random),
+        };
         lead(script, random, Manner::Neat, &opening, costs, tells);
     } else {
         let mut opening = openings::fitting(random, tells, method);

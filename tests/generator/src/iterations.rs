@@ -201,7 +201,11 @@ impl Step {
     }
 
     fn reflection(&self, add: &mut impl FnMut(&str)) {
-        let (j, n, x0) = (self.before.detail(), self.before.n(), self.before.standing(1));
+        let (j, n, x0) = (
+            self.before.detail(),
+            self.before.n(),
+            self.before.standing(1),
+        );
         if self.cost < x0 {
             let places = [j == 1, 1 < j && j < n, j == n];
             let names = ["first", "middle", "last"];

@@ -21,6 +21,7 @@ mod iterations;
 mod limits;
 mod malformed;
 mod mild;
+mod narrows;
 mod numbers;
 mod openings;
 mod orders;
@@ -52,7 +53,7 @@ use std::io::Write;
 use std::process::ExitCode;
 
 const GATE_SEED: u64 = 1998;
-const GATE_SCRIPTS: u64 = 10_000;
+const GATE_SCRIPTS: u64 = 12_000;
 const GATE_TEXTS: u64 = 4000;
 
 /// The numbers of the command line.

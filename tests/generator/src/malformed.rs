@@ -18,7 +18,8 @@ pub fn script(random: &mut Random, habit: Habit) -> Vec<u8> {
         0 => text.clear(),
         1 => text = b"\n".to_vec(),
         2 | 3 => other_rule(random, &mut text),
-        4..=8 => odd_line(random, &mut text),
+        4 => other_method(random, &mut text),
+        5..=8 => odd_line(random, &mut text),
         9 | 10 => other_part(random, &mut text),
         11 | 12 => other_ring(random, &mut text),
         _ => damage(random, &mut text),
@@ -47,6 +48,18 @@ fn too_long_series(script: &mut Script, random: &mut Random) {
     let method = script.habit.method;
     script.series(method, random.between(0, 9), readings);
     script.ask();
+}
+
+/// A method above 1 in the opening, or in a line more that writes one or runs a series.
+fn other_method(random: &mut Random, text: &mut Vec<u8>) {
+    let method: u64 = random.pick(&[2, 2, 3, 256, 257, 1 << 32, (1 << 32) + 1, u64::MAX]);
+    let word = format!("{method:016x}");
+    let line = match random.below(3) {
+        0 => return text[2..18].copy_from_slice(word.as_bytes()),
+        1 => format!("p {:016x} {:016x} {word}\n", 15, 0),
+        _ => format!("r {word} {:016x} {:016x}\n", random.between(0, 9), 5),
+    };
+    insert_line(random, text, line.into_bytes());
 }
 
 /// A rule above 3 in the opening.

@@ -1,9 +1,9 @@
 //! Scripts whose lines write parts of a search. A search is led for a while; then parts are written, calls made, and most parts put back.
 
+use crate::companions;
 use crate::costs::Costs;
 use crate::courses;
 use crate::episodes;
-use crate::companions;
 use crate::habits::{Habit, MULTIDIRECTIONAL};
 use crate::held;
 use crate::limits;

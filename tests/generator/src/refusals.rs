@@ -2,6 +2,7 @@
 //! some just inside and most just outside.
 
 use crate::axes::{self, RANGE};
+use crate::habits::MULTIDIRECTIONAL;
 use crate::openings::{self, Opening, MOST_BUDGET, MOST_SPREAD, MOVED, SIZE, SPREAD};
 use crate::random::Random;
 use rival::Axis;
@@ -42,10 +43,20 @@ const NANS: [u64; 6] = [
 pub fn edged(random: &mut Random, method: u64) -> Opening {
     let tells = random.between(10, 60);
     let mut opening = openings::fitting(random, tells, method);
-    for _ in 0..random.pick(&[1, 1, 1, 2, 2, 3]) {
+    let other = method == MULTIDIRECTIONAL && random.one_in(3);
+    if other {
+        other_rule(random, &mut opening);
+    }
+    for _ in 0..random.pick(&[u64::from(!other), 1, 1, 2, 2, 3]) {
         random.pick(&DAMAGES)(random, &mut opening);
     }
     opening
+}
+
+/// A rule that is not size, or none, with an E that it may have.
+fn other_rule(random: &mut Random, opening: &mut Opening) {
+    opening.rule = random.pick(&[0, SPREAD, MOVED]);
+    opening.threshold = openings::threshold(random, opening.rule);
 }
 
 /// Damage to the axes alone, for openings that have no other numbers.

@@ -1,6 +1,10 @@
-//! Rings, counted in the scripts: what becomes of each coordinate that is asked on one, steps over the seam, and refusal 13.
+//! Rings, counted in the scripts: what becomes of each coordinate that is asked on one, steps over the seam, and refusal 13; also openings
+//! about refusal 14, and lines that are malformed for a ring or a method.
 
 use crate::causes;
+use crate::courses::LONGEST_SERIES;
+use crate::habits::MULTIDIRECTIONAL;
+use crate::openings::{MOST_BUDGET, MOVED, SIZE, SPREAD};
 use crate::state::State;
 use crate::targets;
 use rival::Search;
@@ -35,8 +39,25 @@ pub const OPENINGS: [&str; 8] = [
     "start at hi, no ring, accepted",
 ];
 
-/// Malformed lines for a ring above 1.
-pub const MALFORMED: [&str; 2] = ["o", "p"];
+/// Openings about refusal 14.
+pub const METHODS: [&str; 7] = [
+    "14, no rule named",
+    "14, spread",
+    "14, moved",
+    "14 over 7",
+    "6 over 14",
+    "5 over 14",
+    "an axis over 14",
+];
+
+/// Malformed lines for a ring above 1, and for a method above 1.
+pub const MALFORMED: [&str; 5] = [
+    "o, a ring above 1",
+    "p, a ring above 1",
+    "o, a method above 1",
+    "p, a method above 1",
+    "r, a method above 1",
+];
 
 #[derive(Clone, Default)]
 pub struct Rings {
@@ -49,7 +70,8 @@ pub struct Rings {
     /// Openings refused as 13, by axis.
     pub refused: [u64; 9],
     pub openings: [u64; 8],
-    pub malformed: [u64; 2],
+    pub methods: [u64; 7],
+    pub malformed: [u64; 5],
     /// Lines that write a ring: 0 and 1, and 1 past n.
     pub written: [u64; 3],
     /// Coordinates that are not what this program makes of the search's parts.
@@ -66,6 +88,7 @@ impl Rings {
         add(&mut self.beside_stops, &other.beside_stops);
         add(&mut self.refused, &other.refused);
         add(&mut self.openings, &other.openings);
+        add(&mut self.methods, &other.methods);
         add(&mut self.malformed, &other.malformed);
         add(&mut self.written, &other.written);
         add(&mut self.ringed, &other.ringed);
@@ -109,6 +132,9 @@ impl Follower {
         }
         let met = opening.met(verdict, axis);
         let counts = rings.openings.iter_mut().zip(met);
+        counts.for_each(|(count, met)| *count += u64::from(met));
+        let met = opening.met_by_method(verdict, axis);
+        let counts = rings.methods.iter_mut().zip(met);
         counts.for_each(|(count, met)| *count += u64::from(met));
     }
 
@@ -170,7 +196,7 @@ fn met(state: &State, axis: u64) -> [bool; 8] {
     ]
 }
 
-/// A line that could be an opening but for a ring above 1, or one that writes such a ring.
+/// A line that could be an opening or a series but for a ring or a method above 1, or one that writes such a ring or method.
 pub fn malformed(line: &[u8], rings: &mut Rings) {
     let sound = line.len() > 1 && (line.len() - 1).is_multiple_of(17);
     let words = (line.len().saturating_sub(1)) / 17;
@@ -178,12 +204,19 @@ pub fn malformed(line: &[u8], rings: &mut Rings) {
         Some(b'o') if sound && words == 49 => {
             let opening = Given::read(line);
             let above = (1..=8).any(|axis| opening.ring(axis) > 1);
-            rings.malformed[0] += u64::from(above && opening.0[0] <= 1 && opening.0[2] <= 3);
+            let [method, _, rule] = [opening.0[0], opening.0[1], opening.0[2]];
+            rings.malformed[0] += u64::from(above && method <= 1 && rule <= 3);
+            rings.malformed[2] += u64::from(!above && method > 1 && rule <= 3);
         }
         Some(b'p') if sound && words == 3 => {
             let [part, axis, value] = causes::words(line);
             let above = part == 14 && (1..=8).contains(&axis) && value > 1;
             rings.malformed[1] += u64::from(above);
+            rings.malformed[3] += u64::from([part, axis] == [15, 0] && value > 1);
+        }
+        Some(b'r') if sound && words == 3 => {
+            let [method, _, readings] = causes::words(line);
+            rings.malformed[4] += u64::from(method > 1 && readings <= LONGEST_SERIES);
         }
         _ => {}
     }
@@ -234,6 +267,23 @@ impl Given {
     /// Whether the axis is a ring that starts at hi.
     fn at_seam(&self, axis: u64) -> bool {
         self.is_ring(axis) && self.starts_at_hi(axis)
+    }
+
+    /// Which of `METHODS` hold.
+    fn met_by_method(&self, verdict: u64, axis: u64) -> [bool; 7] {
+        let [method, rule, budget] = [self.0[0], self.0[2], self.0[8]];
+        let other = method == MULTIDIRECTIONAL && rule != SIZE;
+        let refused = |number| other && verdict == number;
+        let spent = !(self.n() + 1..=MOST_BUDGET).contains(&budget);
+        [
+            refused(14) && rule == 0,
+            refused(14) && rule == SPREAD,
+            refused(14) && rule == MOVED,
+            refused(14) && spent,
+            refused(6),
+            refused(5),
+            other && axis > 0,
+        ]
     }
 
     /// Which of `OPENINGS` hold.

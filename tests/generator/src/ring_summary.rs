@@ -1,6 +1,6 @@
 //! The summary of rings, and what the gate's run has to cover of them.
 
-use crate::ring_counts::{Rings, BRANCHES, MAKERS, MALFORMED, OPENINGS, SEAMS};
+use crate::ring_counts::{Rings, BRANCHES, MAKERS, MALFORMED, METHODS, OPENINGS, SEAMS};
 use crate::summary::{aligned, each_name, named, Need, ASKED, PHASES};
 
 const YES: bool = true;
@@ -48,7 +48,8 @@ pub fn print(rings: &Rings) {
     println!("refused by 13 at axis {}", aligned(&rings.refused[1..]));
     println!("openings with {}", named(&OPENINGS, &rings.openings));
     let malformed = named(&MALFORMED, &rings.malformed);
-    println!("malformed lines with a ring above 1: {malformed}");
+    println!("malformed lines: {malformed}");
+    println!("openings with {}", named(&METHODS, &rings.methods));
     let [off, on, past] = rings.written;
     println!("rings written 0 {off}, 1 {on}, of these past n {past}");
     println!("coordinates worked out otherwise {}", rings.other);
@@ -69,7 +70,8 @@ pub fn needed(rings: &Rings) -> Vec<Need> {
     let axes = ["1", "2", "3", "4", "5", "6", "7", "8"];
     needs.extend(each_name("refused by 13 at", &axes, &rings.refused[1..]));
     needs.extend(each_name("openings with", &OPENINGS, &rings.openings));
-    needs.extend(each_name("rings above 1 in", &MALFORMED, &rings.malformed));
+    needs.extend(each_name("malformed lines,", &MALFORMED, &rings.malformed));
+    needs.extend(each_name("openings with", &METHODS, &rings.methods));
     let values = ["0", "1", "1 past n"];
     needs.extend(each_name("rings written", &values, &rings.written));
     let same = u64::from(rings.other == 0);
