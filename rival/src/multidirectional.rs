@@ -61,10 +61,15 @@ impl Search {
         }
     }
 
+    /// Whether a reading is lower than the base.
+    fn is_lower(&self, reading: &Vertex) -> bool {
+        reading.cost < self.standing.costs[0]
+    }
+
     /// Takes the reading of reflection j: a lower one swaps with the base, and the reflections become the companions.
     pub(crate) fn tell_reflection(&mut self, j: usize, reading: &Vertex) {
         self.counts.iteration_readings += 1;
-        if reading.cost < self.standing.costs[0] {
+        if self.is_lower(reading) {
             self.swap_reflection(j, reading);
         } else {
             self.gathered.place(j - 1, reading);
@@ -96,7 +101,7 @@ impl Search {
     /// Takes the reading of companion j: a lower one swaps with the base.
     pub(crate) fn tell_companion(&mut self, j: usize, reading: &Vertex) {
         self.counts.iteration_readings += 1;
-        if reading.cost < self.standing.costs[0] {
+        if self.is_lower(reading) {
             self.swap_companion(j, reading);
         } else if let Some(i) = self.first_unread(j + 1) {
             self.standing.clear_from(self.n + 1);
@@ -109,10 +114,10 @@ impl Search {
 
     /// Companion j becomes the base and the old base companion j; the others stay, read or unread, with their stops.
     fn swap_companion(&mut self, j: usize, reading: &Vertex) {
-        let base = self.standing.vertex(0);
+        let old = self.standing.vertex(0);
         self.stand(reading, |search, i| {
             if i == j {
-                read(base)
+                read(old)
             } else {
                 (search.standing.vertex(i), search.stops[i])
             }
