@@ -1,6 +1,7 @@
 //! Lines that bring standing or gathered places out of cost order by one, or to its edge.
 
 use crate::costs::DARK;
+use crate::habits::NELDER_MEAD;
 use crate::state::{State, Written};
 
 /// Whether a number written at place 1 has standing places read of which one is past the next by one and none by more, or whether they are
@@ -14,9 +15,13 @@ fn numbered(state: &State, [_, place, number]: Written) -> Option<bool> {
     }
 }
 
-/// Whether a cost of a place that has to be in order is one past its neighbours', or none if it is equal to neither and not past by one.
+/// Whether a cost of a place that has to be in order is one past its neighbours', or none if it is equal to neither and not past by one; none in
+/// the multidirectional search, which holds no order.
 pub fn past(state: &State, line: Written) -> Option<bool> {
     let [part, place, value] = line;
+    if state.method() != NELDER_MEAD {
+        return None;
+    }
     if part == 11 {
         return numbered(state, line);
     }

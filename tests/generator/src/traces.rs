@@ -1,6 +1,7 @@
 //! Numbers of readings, counted in the scripts: those that lines write, r where it is held, and what the calls make of them.
 
 use crate::causes::words;
+use crate::habits::NELDER_MEAD;
 use crate::state::{State, Written};
 use rival::Search;
 
@@ -128,7 +129,8 @@ impl Tracer {
         }
         let state = State::of(search);
         let builds = usize::from(state.builds() > 0);
-        if !(1..=8).contains(&state.n()) || state.standing_fall() <= 0 {
+        let held = state.method() == NELDER_MEAD && (1..=8).contains(&state.n());
+        if !held || state.standing_fall() <= 0 {
             return;
         }
         match (state.standing_number(1), verdict) {
