@@ -6,11 +6,12 @@ use lib.Ieee.{of_bits, of_fields, to_bits, odd, neg, add, sub, mul, div, sum, ro
 use Rattle.rules.specs.Simplex.{up_to, flat, store, unpack, insert}
 use Rattle.rules.specs.Trial.{sum_to, centroid, stops_to, trial}
 use Rattle.rules.specs.Stop.{total, spread_met, apart, movement, norm, all_within, size_met, met}
+use Rattle.rules.specs.Companions.{unread_from}
 use Rattle.rules.specs.Decide.{decided}
 use Rattle.rules.specs.Accept.{accept}
 use Rattle.rules.specs.History.{run}
 use Rattle.rules.specs.Opening.{axes_checks, open_verdict, fresh, opening}
-use Rattle.rules.specs.Calls.{in_order, all_costs, sound, ask_verdict, tell_verdict, best_verdict, asking, telling, showing}
+use Rattle.rules.specs.Calls.{in_order, all_costs, every, sound, ask_verdict, tell_verdict, best_verdict, asking, telling, showing}
 use Rattle.rules.specs.Examples.{given, paper}
 use Rattle.rules.specs.Cases.{cases_given, cases_stated, openings_given, openings_stated}
 use Rattle.rules.specs.Answers.{endings_given, endings_stated, refusals_given, refusals_stated, numbers_given, numbers_stated, axes_given, axes_stated}
@@ -23,12 +24,12 @@ floats = tt
 
 -- to unfold this is to run the rules
 unfoldable pub rules : Unit {0}
-unfolding floats fresh up_to flat store unpack insert sum_to centroid stops_to trial total spread_met apart movement norm all_within size_met met decided accept run
+unfolding floats fresh up_to flat store unpack insert sum_to centroid stops_to trial total spread_met apart movement norm all_within size_met met unread_from decided accept run
 rules = tt
 
 -- to unfold this is to run the calls
 unfoldable pub calls : Unit {0}
-unfolding rules axes_checks open_verdict opening in_order all_costs sound ask_verdict tell_verdict best_verdict asking telling showing
+unfolding rules axes_checks open_verdict opening in_order all_costs every sound ask_verdict tell_verdict best_verdict asking telling showing
 calls = tt
 
 pub examples : given ≡ paper

@@ -14,6 +14,7 @@ use Rattle.rules.specs.Causes.{causes_given, causes_stated, strays_given, strays
 use Rattle.rules.specs.Stops.{stops_given, stops_stated, limited_given, limited_stated, asks_given, asks_stated}
 use Rattle.rules.specs.Rings.{brought_given, brought_stated, ring_openings_given, ring_openings_stated, rings_given, rings_stated}
 use Rattle.rules.specs.RingWalks.{ring_walks_given, ring_walks_stated, plain_given, plain_stated, ring_judged_given, ring_judged_stated, ring_limited_given, ring_limited_stated}
+use Rattle.rules.specs.Bases.{turns_given, turns_stated, turn_ends_given, turn_ends_stated}
 use Rattle.rules.proofs.Examples.{floats, rules, calls}
 
 pub walks : walks_given ≡ walks_stated
@@ -103,3 +104,11 @@ plain = refl
 pub ring_limited : ring_limited_given ≡ ring_limited_stated
 unfolding ring_limited_given ring_limited_stated rules
 ring_limited = refl
+
+pub turns : turns_given ≡ turns_stated
+unfolding turns_given turns_stated walk_by rules
+turns = refl
+
+pub turn_ends : turn_ends_given ≡ turn_ends_stated
+unfolding turn_ends_given turn_ends_stated rules
+turn_ends = refl

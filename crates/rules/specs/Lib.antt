@@ -28,3 +28,4 @@ pub mod Causes
 pub mod Stops
 pub mod Rings
 pub mod RingWalks
+pub mod Bases
