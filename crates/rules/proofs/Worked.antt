@@ -1,11 +1,11 @@
 -- The worked searches trial by trial, the stopping rules at their edges, the opening's refusals edge by edge, what a search carries, refusal 12
--- cause by cause, a trial's stops, and rings, by computation. Assumes nothing.
+-- cause by cause, a trial's stops, rings, and the multidirectional search, by computation. Assumes nothing.
 use mathlib.Core.Path.{◌≡◌, refl}
 use Rattle.rules.specs.Simplex.{flat, store}
 use Rattle.rules.specs.History.{costs_in, before_cost}
 use Rattle.rules.specs.Opening.{axes_checks, open_verdict, closed}
 use Rattle.rules.specs.Calls.{in_order, all_costs, sound, ask_verdict, tell_verdict, best_verdict, showing}
-use Rattle.rules.specs.Tally.{pieces, count_of, probes_in, open_in}
+use Rattle.rules.specs.Tally.{pieces, count_of, probes_in, open_in, directed_in, all_read}
 use Rattle.rules.specs.Walks.{walk_by, walks_given, walks_stated}
 use Rattle.rules.specs.Thresholds.{thresholds_given, thresholds_stated}
 use Rattle.rules.specs.Edges.{edges_given, edges_stated, opened_given, opened_stated, clamps_given, clamps_stated}
@@ -15,6 +15,7 @@ use Rattle.rules.specs.Stops.{stops_given, stops_stated, limited_given, limited_
 use Rattle.rules.specs.Rings.{brought_given, brought_stated, ring_openings_given, ring_openings_stated, rings_given, rings_stated}
 use Rattle.rules.specs.RingWalks.{ring_walks_given, ring_walks_stated, plain_given, plain_stated, ring_judged_given, ring_judged_stated, ring_limited_given, ring_limited_stated}
 use Rattle.rules.specs.Bases.{turns_given, turns_stated, turn_ends_given, turn_ends_stated}
+use Rattle.rules.specs.Turns.{moments_given, moments_stated, turn_runs_given, turn_runs_stated, centers_given, centers_stated, turn_tallies_given, turn_tallies_stated, turn_openings_given, turn_openings_stated, turn_causes_given, turn_causes_stated, turn_strays_given, turn_strays_stated, leads_given, leads_stated, turn_asks_given, turn_asks_stated}
 use Rattle.rules.proofs.Examples.{floats, rules, calls}
 
 pub walks : walks_given ≡ walks_stated
@@ -112,3 +113,39 @@ turns = refl
 pub turn_ends : turn_ends_given ≡ turn_ends_stated
 unfolding turn_ends_given turn_ends_stated rules
 turn_ends = refl
+
+pub moments : moments_given ≡ moments_stated
+unfolding moments_given moments_stated rules
+moments = refl
+
+pub turn_runs : turn_runs_given ≡ turn_runs_stated
+unfolding turn_runs_given turn_runs_stated rules
+turn_runs = refl
+
+pub centers : centers_given ≡ centers_stated
+unfolding centers_given centers_stated rules
+centers = refl
+
+pub turn_tallies : turn_tallies_given ≡ turn_tallies_stated
+unfolding turn_tallies_given turn_tallies_stated pieces count_of all_read probes_in directed_in open_in rules
+turn_tallies = refl
+
+pub turn_openings : turn_openings_given ≡ turn_openings_stated
+unfolding turn_openings_given turn_openings_stated axes_checks open_verdict floats
+turn_openings = refl
+
+pub turn_causes : turn_causes_given ≡ turn_causes_stated
+unfolding turn_causes_given turn_causes_stated calls
+turn_causes = refl
+
+pub turn_strays : turn_strays_given ≡ turn_strays_stated
+unfolding turn_strays_given turn_strays_stated rules
+turn_strays = refl
+
+pub leads : leads_given ≡ leads_stated
+unfolding leads_given leads_stated rules
+leads = refl
+
+pub turn_asks : turn_asks_given ≡ turn_asks_stated
+unfolding turn_asks_given turn_asks_stated calls
+turn_asks = refl

@@ -13,7 +13,7 @@ use Rattle.rules.specs.declared.Phase.{Phase}
 use Rattle.rules.specs.declared.Phase.TheVariants.{Reflecting, Ended}
 use Rattle.rules.specs.declared.Cause.TheVariants.{Settled, Budget}
 use Rattle.rules.specs.declared.Refusal.{Refusal}
-use Rattle.rules.specs.declared.Refusal.TheVariants.{AxisCount, OutOfRange, BadLimits, BadStep, BadCoefficient, BadThreshold, BadBudget, SearchEnded, CostTooHigh, WrongNumber, NoReading, Damaged, RingAtHi}
+use Rattle.rules.specs.declared.Refusal.TheVariants.{AxisCount, OutOfRange, BadLimits, BadStep, BadCoefficient, BadThreshold, BadBudget, SearchEnded, CostTooHigh, WrongNumber, NoReading, Damaged, RingAtHi, RuleOfMethod}
 
 -- the search of an opening over n axes from −8 to 8 with step 1, no rule named
 abbrev pub fresh_with : ℕ → Float → ℕ → Search
@@ -89,7 +89,7 @@ refusals_stated =
 
 -- every refusal, those of an axis with one of their own
 abbrev pub every_refusal : List Refusal
-every_refusal = AxisCount ∷ OutOfRange 6 ∷ BadLimits 7 ∷ BadStep 8 ∷ BadCoefficient ∷ BadThreshold ∷ BadBudget ∷ SearchEnded ∷ CostTooHigh ∷ WrongNumber ∷ NoReading ∷ Damaged ∷ RingAtHi 5 ∷ []
+every_refusal = AxisCount ∷ OutOfRange 6 ∷ BadLimits 7 ∷ BadStep 8 ∷ BadCoefficient ∷ BadThreshold ∷ BadBudget ∷ SearchEnded ∷ CostTooHigh ∷ WrongNumber ∷ NoReading ∷ Damaged ∷ RingAtHi 5 ∷ RuleOfMethod ∷ []
 
 -- the numbers of `every_refusal` by the rules
 abbrev pub numbers_given : List ℕ
@@ -101,8 +101,8 @@ axes_given = map axis_of every_refusal
 
 -- the numbers of the table
 abbrev pub numbers_stated : List ℕ
-numbers_stated = 1 ∷ 2 ∷ 3 ∷ 4 ∷ 5 ∷ 6 ∷ 7 ∷ 8 ∷ 9 ∷ 10 ∷ 11 ∷ 12 ∷ 13 ∷ []
+numbers_stated = 1 ∷ 2 ∷ 3 ∷ 4 ∷ 5 ∷ 6 ∷ 7 ∷ 8 ∷ 9 ∷ 10 ∷ 11 ∷ 12 ∷ 13 ∷ 14 ∷ []
 
 -- "Numbers 2 to 4 come with the axis", and "13 with its axis"
 abbrev pub axes_stated : List (Option ℕ)
-axes_stated = None ∷ Some 6 ∷ Some 7 ∷ Some 8 ∷ None ∷ None ∷ None ∷ None ∷ None ∷ None ∷ None ∷ None ∷ Some 5 ∷ []
+axes_stated = None ∷ Some 6 ∷ Some 7 ∷ Some 8 ∷ None ∷ None ∷ None ∷ None ∷ None ∷ None ∷ None ∷ None ∷ Some 5 ∷ None ∷ []

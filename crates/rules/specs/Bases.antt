@@ -11,13 +11,13 @@ use Rattle.rules.specs.declared.Axis.{Axis}
 use Rattle.rules.specs.declared.Opening.{Opening}
 use Rattle.rules.specs.declared.Rule.TheVariants.{Size}
 use Rattle.rules.specs.declared.Phase.{Phase}
-use Rattle.rules.specs.declared.Phase.TheVariants.{Basing, Mirroring, Checking, Probing, Ended}
+use Rattle.rules.specs.declared.Phase.TheVariants.{Mirroring, Checking, Probing, Ended}
 use Rattle.rules.specs.declared.Cause.TheVariants.{Settled, Budget}
-use Rattle.rules.specs.declared.Search.{Search}
 
 -- an opening in this method over n axes, with size E of these bits; no coefficient is the usual one, and none is used
 abbrev pub turning : ℕ → List Axis → ℕ → ℕ → Opening
-turning n axes e budget = record { method = Multidirectional; n = n; axes = axes; rule = Some (Size (bits e)); coefficients = odd_coefficients; budget = budget }
+turning n axes e budget =
+    record { method = Multidirectional; n = n; axes = axes; rule = Some (Size (bits e)); coefficients = odd_coefficients; budget = budget }
 
 -- 2⁻²⁰, an E that no search here meets
 abbrev pub least : ℕ
@@ -29,7 +29,9 @@ trio = turning 3 wide.axes least 100
 
 -- the costs told to it
 abbrev pub trio_costs : List ℕ
-trio_costs = 90 ∷ 90 ∷ 95 ∷ 97 ∷ 90 ∷ 80 ∷ 70 ∷ 70 ∷ 60 ∷ 66 ∷ 60 ∷ 50 ∷ 55 ∷ 50 ∷ 53 ∷ 51 ∷ 52 ∷ 53 ∷ 54 ∷ 50 ∷ 55 ∷ 57 ∷ 50 ∷ 56 ∷ 40 ∷ 41 ∷ 42 ∷ 43 ∷ 44 ∷ 30 ∷ 33 ∷ 30 ∷ 32 ∷ 31 ∷ 20 ∷ []
+trio_costs =
+    90 ∷ 90 ∷ 95 ∷ 97 ∷ 90 ∷ 80 ∷ 70 ∷ 70 ∷ 60 ∷ 66 ∷ 60 ∷ 50 ∷ 55 ∷ 50 ∷ 53 ∷ 51 ∷ 52 ∷ 53 ∷ 54 ∷ 50 ∷ 55 ∷ 57 ∷ 50 ∷ 56 ∷ 40 ∷ 41 ∷ 42 ∷ 43 ∷ 44
+    ∷ 30 ∷ 33 ∷ 30 ∷ 32 ∷ 31 ∷ 20 ∷ []
 
 -- its trials, each with its stops
 abbrev pub trio_trials : List (List ℕ)
@@ -91,7 +93,7 @@ trio_trials =
 -- axis 1 goes from −1 to 0.6, start 0.3, step 0.8; axis 2 is that of `between`, on which the step back is clamped
 abbrev pub pinched : Opening
 pinched = turning 2 (two_axes (axis_at 0xbff0_0000_0000_0000 0x3fe3_3333_3333_3333 0x3fd3_3333_3333_3333 0x3fe9_9999_9999_999a)
-        (axis_at 0xbfec_efed_cc22_af58 0x3ff7_af02_08d6_af57 0x3fd2_6e16_458a_af56 0x3ff3_137c_7774_0382)) least 100
+    (axis_at 0xbfec_efed_cc22_af58 0x3ff7_af02_08d6_af57 0x3fd2_6e16_458a_af56 0x3ff3_137c_7774_0382)) least 100
 
 -- the costs told to it
 abbrev pub pinched_costs : List ℕ
@@ -148,16 +150,16 @@ other_trials =
     ∷ []
 
 -- the axes of `rotator`, of which the first is a ring
-abbrev pub turned : Opening
-turned = turning 2 rotator.axes least 100
+abbrev pub rotating : Opening
+rotating = turning 2 rotator.axes least 100
 
 -- the costs told to it
-abbrev pub turned_costs : List ℕ
-turned_costs = 30 ∷ 31 ∷ 32 ∷ 33 ∷ 20 ∷ 22 ∷ 23 ∷ 10 ∷ 11 ∷ 12 ∷ 13 ∷ 14 ∷ 15 ∷ 16 ∷ 17 ∷ []
+abbrev pub rotating_costs : List ℕ
+rotating_costs = 30 ∷ 31 ∷ 32 ∷ 33 ∷ 20 ∷ 22 ∷ 23 ∷ 10 ∷ 11 ∷ 12 ∷ 13 ∷ 14 ∷ 15 ∷ 16 ∷ 17 ∷ []
 
 -- its trials, each with its stops
-abbrev pub turned_trials : List (List ℕ)
-turned_trials =
+abbrev pub rotating_trials : List (List ℕ)
+rotating_trials =
     -- the base (30)
     (0x3ffb_3333_3333_3333 ∷ 0x3fd3_3333_3333_3333 ∷ 0 ∷ [])
     -- reflections 1 and 2 (31, 32): none is below the base, 30
@@ -256,21 +258,21 @@ round_trials =
 unfoldable pub turns_given : List (List (List ℕ))
 turns_given =
     walk_by asked_counted (begun trio) trio_costs ∷ walk_by asked_counted (begun pinched) pinched_costs
-    ∷ walk_by asked_counted (begun pinched) other_costs ∷ walk_by asked_counted (begun turned) turned_costs
+    ∷ walk_by asked_counted (begun pinched) other_costs ∷ walk_by asked_counted (begun rotating) rotating_costs
     ∷ walk_by asked_counted (begun lone) lone_costs ∷ walk_by asked_counted (begun round) round_costs
     ∷ []
 
 -- the trials that the documents give
 unfoldable pub turns_stated : List (List (List ℕ))
-turns_stated = trio_trials ∷ pinched_trials ∷ other_trials ∷ turned_trials ∷ lone_trials ∷ round_trials ∷ []
+turns_stated = trio_trials ∷ pinched_trials ∷ other_trials ∷ rotating_trials ∷ lone_trials ∷ round_trials ∷ []
 
 -- the phase of a search over axis 1 from −8 to 8, start 5.1, step 0.7, and axis 2 of `odd`, with size E of these bits, after these costs
 abbrev pub turns_then : ℕ → ℕ → List ℕ → Phase
 turns_then e budget cs =
     (after_costs (begun (turning 2
-        (two_axes (axis_at 0xc020_0000_0000_0000 0x4020_0000_0000_0000 0x4014_6666_6666_6666 0x3fe6_6666_6666_6666)
-            (axis_at 0xc010_0000_0000_0000 0x4010_0000_0000_0000 0xbfd3_3333_3333_3333 0x3ff1_9999_9999_999a))
-        e budget)) cs).phase
+    (two_axes (axis_at 0xc020_0000_0000_0000 0x4020_0000_0000_0000 0x4014_6666_6666_6666 0x3fe6_6666_6666_6666)
+    (axis_at 0xc010_0000_0000_0000 0x4010_0000_0000_0000 0xbfd3_3333_3333_3333 0x3ff1_9999_9999_999a))
+    e budget)) cs).phase
 
 -- how searches stand by the rules
 unfoldable pub turn_ends_given : List Phase

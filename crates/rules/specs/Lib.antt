@@ -29,3 +29,4 @@ pub mod Stops
 pub mod Rings
 pub mod RingWalks
 pub mod Bases
+pub mod Turns
