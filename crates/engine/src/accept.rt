@@ -11,14 +11,15 @@ use super::decide::{decided, finished_by};
 use super::phase::{is_met, moved, next_phase, spent_phase};
 use super::trial::trial;
 use super::vertices::{entrant, gather, stand};
-use rules::{Decision, Phase, Search, Vertex};
+use rules::{Change, Decision, Phase, Search, Vertex};
 
-// The point that the next build goes around.
+// The point that the next build goes around, or that companions are built around.
 fn center(s: &mut Search, decision: Decision, u: &Vertex)
     ensures { s.new ≡ record s.old { center = center_after decision u.now s.old } }
 {
-    if let Decision::Restart = decision {
-        s.center = u.point;
+    match decision {
+        Decision::Restart | Decision::Regroup(Change::Built) => s.center = u.point,
+        _ => {}
     }
 }
 
@@ -63,6 +64,6 @@ pub(super) fn accept(s: &mut Search, cost: u64)
     let met = is_met(s, piece, movement);
     center(s, decision, &u);
     count(&mut s.counts, s.phase, piece);
-    advance(s, next_phase(decision, met));
+    advance(s, next_phase(decision, met, s.method));
     note(s, v);
 }

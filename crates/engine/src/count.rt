@@ -4,7 +4,7 @@ ghost use Rattle.rules.specs.Numbers.{max_budget};
 ghost use Rattle.rules.specs.Count.{told_in, counted, finished};
 ghost use Rattle.rules.specs.Calls.{sound_counts};
 
-use super::view::{is_probe, open_by};
+use super::view::{is_directed, is_probe, open_by};
 use rules::{Counts, Phase, Piece};
 
 // One reading told in this phase more.
@@ -15,6 +15,7 @@ fn told_in(phase: Phase, counts: &mut Counts)
 {
     counts.probes += is_probe(phase);
     counts.unfinished += open_by(phase);
+    counts.directed += is_directed(phase);
 }
 
 // A finished piece more, and nothing open.
@@ -30,6 +31,7 @@ fn counted(piece: Piece, counts: &mut Counts)
         Piece::Expansion => counts.expansions += 1,
         Piece::Contraction => counts.contractions += 1,
         Piece::Shrink => counts.shrinks += 1,
+        Piece::Pattern => counts.patterns += 1,
     }
 }
 

@@ -1,7 +1,7 @@
 // The arithmetic of one axis: the clamp, the turn of a ring, and the form of every move.
 ghost use Rattle.std.specs.Prelude.{◌≡◌};
 ghost use Rattle.rules.specs.Binary64.{clamp, brought_round};
-ghost use Rattle.rules.specs.Trial.{move, brought_in, at_stop};
+ghost use Rattle.rules.specs.Trial.{move, brought_in, at_stop, within};
 
 use rules::Axis;
 
@@ -45,6 +45,13 @@ pub(super) fn at_stop(x: &Axis, v: f64) -> bool
     ensures { result ≡ at_stop x.now v }
 {
     !x.ring && !(x.lo <= v && v <= x.hi)
+}
+
+// Whether v is a position of the axis: from lo to hi, on a ring below hi.
+pub(super) fn within(x: &Axis, v: f64) -> bool
+    ensures { result ≡ within x.now v }
+{
+    x.lo <= v && if x.ring { v < x.hi } else { v <= x.hi }
 }
 
 // from + k * (to - back), the form of every move.

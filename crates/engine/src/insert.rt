@@ -1,6 +1,6 @@
-// A newcomer among the places, after all of equal cost: the recursion of document 01, on one vertex fewer at each call. That len ≤ 8, asked
+// A newcomer among the places, after all of equal cost, or after all: the recursion of document 01, on one vertex fewer at each call. That len ≤ 8, asked
 // for in each contract, leaves it a place; a Simplex does not carry how many vertices it has.
-ghost use Rattle.std.specs.Prelude.{◌++◌, ◌∷◌, ◌+◌, ◌≤◌, take, drop};
+ghost use Rattle.std.specs.Prelude.{[], ◌++◌, ◌∷◌, ◌+◌, ◌≤◌, take, drop};
 ghost use Rattle.rules.specs.Simplex.{unpack, insert};
 ghost use Rattle.engine.specs.Places.{Clean, Holds};
 
@@ -38,4 +38,13 @@ pub(super) fn insert(s: &mut Simplex, len: usize, v: Vertex)
 {
     clear(s, len);
     insert_from(s, 0, len, v);
+}
+
+// Puts v after the first len vertices of s; blank places after it.
+pub(super) fn append(s: &mut Simplex, len: usize, v: Vertex)
+    requires { len ≤ 8 }
+    ensures { Holds (len + 1) s.new (unpack len s.old ++ v ∷ []) }
+{
+    clear(s, len);
+    put_before(s, len, len, v);
 }

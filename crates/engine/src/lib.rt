@@ -7,6 +7,7 @@ use rules::{Asked, Opened, Opening, Refusal, Search, Vertex};
 
 mod accept;
 mod centroid;
+mod companion;
 mod count;
 mod decide;
 mod float;
@@ -29,7 +30,7 @@ ghost use Rattle.rules.specs.Calls.{asking, telling, showing};
 // Opens a search. Where it is refused, the search is the closed one.
 #[tactic(auto, unfolding(rules::specs::Opening::opening))]
 pub fn open_search(given: &Opening) -> Opened
-    ensures { result ≡ opening given.now.n given.now.axes given.now.rule given.now.coefficients given.now.budget }
+    ensures { result ≡ opening given.now.method given.now.n given.now.axes given.now.rule given.now.coefficients given.now.budget }
 {
     let verdict = opening::open_verdict(given);
     let search = match verdict {
@@ -75,7 +76,7 @@ pub fn best(search: &Search) -> Result<Vertex, Refusal>
     })
 }
 
-// The refusal's number in document 01's table, and 13 of document 02. A call and no From: a u64 would not say of which table, and `rules`, where
+// The refusal's number in document 01's table, and 13 and 14 of document 02. A call and no From: a u64 would not say of which table, and `rules`, where
 // Refusal stands, has no function.
 pub fn refusal_number(refusal: Refusal) -> u64
     ensures { result ≡ number_of refusal }
@@ -94,6 +95,7 @@ pub fn refusal_number(refusal: Refusal) -> u64
         Refusal::NoReading => 11,
         Refusal::Damaged => 12,
         Refusal::RingAtHi(_) => 13,
+        Refusal::RuleOfMethod => 14,
     }
 }
 

@@ -1,10 +1,12 @@
-// The opening: its refusals, 1 to 7 and 13, in their order, and the search that it gives, open or closed.
+// The opening: its refusals, 1 to 7, 13 and 14, in their order, and the search that it gives, open or closed.
 ghost use Rattle.std.specs.Prelude.{◌≡◌, map, ◌≤◌};
-ghost use Rattle.rules.specs.Opening.{in_range, all_in_range, in_limits, in_ring, in_step, axis_checks, axes_checks, in_coefficients, in_threshold, rule_of, open_verdict, start_of, keep, fresh, unread, closed};
+ghost use Rattle.rules.specs.Stop.{suits};
+ghost use Rattle.rules.specs.Opening.{in_range, all_in_range, in_limits, in_ring, in_step, axis_checks, axes_checks, in_coefficients, in_threshold, rule_of, open_verdict, start_of, keep, first_phase, fresh, unread, closed};
 
 use super::place::blank;
+use super::stop::suits;
 use rules::{
-    Axis, Cause, Coefficients, Counts, MAX_BUDGET, MAX_SPREAD, Opening, Phase, Refusal, Rule,
+    Axis, Cause, Coefficients, Counts, MAX_BUDGET, MAX_SPREAD, Method, Opening, Phase, Refusal, Rule,
     Search, Setup, Vertex,
 };
 
@@ -107,10 +109,10 @@ fn rule_of(choice: Option<Rule>) -> Rule
     choice.unwrap_or(Rule::Spread(4))
 }
 
-// Checks 1 to 7 and 13, in their order.
+// Checks 1 to 7, 13 and 14, in their order.
 #[tactic(auto, using(crate::proofs::Laws::Checking::exit, crate::proofs::Laws::Opening::opens, std::proofs::lemmas::Bool::Decides::nat_tests))]
 pub(super) fn open_verdict(given: &Opening) -> Result<(), Refusal>
-    ensures { result ≡ open_verdict given.now.n given.now.axes given.now.rule given.now.coefficients given.now.budget }
+    ensures { result ≡ open_verdict given.now.method given.now.n given.now.axes given.now.rule given.now.coefficients given.now.budget }
 {
     let n = given.n;
     if n < 1 || 8 < n {
@@ -122,6 +124,9 @@ pub(super) fn open_verdict(given: &Opening) -> Result<(), Refusal>
     }
     if !in_threshold(rule_of(given.rule)) {
         return Err(Refusal::BadThreshold);
+    }
+    if !suits(given.method, rule_of(given.rule)) {
+        return Err(Refusal::RuleOfMethod);
     }
     if given.budget <= n as u64 || MAX_BUDGET < given.budget {
         return Err(Refusal::BadBudget);
@@ -147,14 +152,16 @@ fn starts(axes: [Axis; 8]) -> [f64; 8]
 }
 
 // The search with nothing read.
-fn unread(setup: Setup, phase: Phase, center: [f64; 8]) -> Search
-    ensures { result ≡ unread setup phase center }
+fn unread(setup: Setup, method: Method, phase: Phase, center: [f64; 8]) -> Search
+    ensures { result ≡ unread setup method phase center }
 {
     Search {
         setup,
+        method,
         phase,
         standing: blank(),
         gathered: blank(),
+        stops: [0; 9],
         center,
         readings: 0,
         best: Vertex::default(),
@@ -162,10 +169,20 @@ fn unread(setup: Setup, phase: Phase, center: [f64; 8]) -> Search
     }
 }
 
+// The phase of a first trial.
+fn first_phase(method: Method) -> Phase
+    ensures { result ≡ first_phase method }
+{
+    match method {
+        Method::NelderMead => Phase::Building(0),
+        Method::Multidirectional => Phase::Basing,
+    }
+}
+
 // The search of an opening that is not refused.
 #[tactic(auto, unfolding(rules::specs::Opening::fresh))]
 pub(super) fn fresh(given: &Opening) -> Search
-    ensures { result ≡ fresh given.now.n given.now.axes given.now.rule given.now.coefficients given.now.budget }
+    ensures { result ≡ fresh given.now.method given.now.n given.now.axes given.now.rule given.now.coefficients given.now.budget }
 {
     let axes = keep(given.n, &given.axes);
     let setup = Setup {
@@ -175,10 +192,10 @@ pub(super) fn fresh(given: &Opening) -> Search
         rule: rule_of(given.rule),
         budget: given.budget,
     };
-    unread(setup, Phase::Building(0), starts(axes))
+    unread(setup, given.method, first_phase(given.method), starts(axes))
 }
 
-// The search of a refused opening. Its phase and its rule are no defaults, so none is derived.
+// The search of a refused opening. Its method, phase and rule are no defaults, so none is derived.
 #[tactic(auto, unfolding(rules::specs::Opening::closed))]
 pub(super) fn closed() -> Search
     ensures { result ≡ closed }
@@ -190,5 +207,10 @@ pub(super) fn closed() -> Search
         rule: Rule::Spread(0),
         budget: 0,
     };
-    unread(setup, Phase::Ended(Cause::Budget), [0.0; 8])
+    unread(
+        setup,
+        Method::NelderMead,
+        Phase::Ended(Cause::Budget),
+        [0.0; 8],
+    )
 }

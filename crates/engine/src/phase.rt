@@ -4,14 +4,14 @@ ghost use Rattle.std.specs.Prelude.{◌≡◌, map, ◌+◌, drop};
 ghost use Rattle.rules.specs.Binary64.{0ᶠ};
 ghost use Rattle.rules.specs.Simplex.{point_of, unpack};
 ghost use Rattle.rules.specs.Stop.{movement, tested};
-ghost use Rattle.rules.specs.Accept.{shrunk_points, moved, next_phase, spent_phase};
+ghost use Rattle.rules.specs.Accept.{shrunk_points, moved, opens, tested_phase, next_phase, spent_phase};
 ghost use Rattle.engine.specs.Ready.{Ready};
 
 use super::place::point_at;
 use super::stop::{distance, met};
 use super::trial::trial;
 use super::view::is_ended;
-use rules::{Cause, Decision, Phase, Piece, Search, Vertex};
+use rules::{Cause, Decision, Method, Phase, Piece, Search, Vertex};
 
 // How far the vertices at places 2 to n + 1 move by a shrink.
 #[tactic(auto, unfolding(rules::specs::Simplex::up_to, rules::specs::Stop::movement))]
@@ -58,14 +58,32 @@ pub(super) fn is_met(s: &Search, piece: Option<Piece>, movement: f64) -> bool
     }
 }
 
+// The phase that opens an iteration.
+fn opens(method: Method) -> Phase
+    ensures { result ≡ opens method }
+{
+    match method {
+        Method::NelderMead => Phase::Reflecting,
+        Method::Multidirectional => Phase::Mirroring(1),
+    }
+}
+
+// A probe round where the rule is met, else the next iteration.
+fn tested_phase(met: bool, method: Method) -> Phase
+    ensures { result ≡ tested_phase met method }
+{
+    if met { Phase::Probing(0) } else { opens(method) }
+}
+
 // The phase that the decision leads to.
-pub(super) fn next_phase(decision: Decision, met: bool) -> Phase
-    ensures { result ≡ next_phase decision met }
+pub(super) fn next_phase(decision: Decision, met: bool, method: Method) -> Phase
+    ensures { result ≡ next_phase decision met method }
 {
     match decision {
         Decision::Go(_, next) => next,
-        Decision::Take(_, _) | Decision::Stand(_) if met => Phase::Probing(0),
-        Decision::Take(_, _) | Decision::Stand(_) => Phase::Reflecting,
+        Decision::Take(_, _) | Decision::Stand(_) | Decision::Regroup(_) => {
+            tested_phase(met, method)
+        }
         Decision::Restart => Phase::Building(1),
     }
 }

@@ -1,21 +1,31 @@
 // The verdicts of the later calls: refusal 12, then 8 to 11. Where n ≤ 8 is asked for, `intact` has just tested it: no type holds it of a
 // search that may be made up.
-ghost use Rattle.std.specs.Prelude.{◌≡◌, ◌≤◌};
-ghost use Rattle.rules.specs.Calls.{sound_phase, standing_in, in_order, all_costs, sound_rule, sound_counts, intact, undamaged, ask_verdict, tell_verdict, best_verdict};
+ghost use Rattle.std.specs.Prelude.{◌≡◌, suc, ◌≤◌};
+ghost use Rattle.rules.specs.Calls.{sound_phase, standing_in, ordered_in, in_order, all_costs, sound_rule, sound_counts, every, companion_within, sound_companions, intact, undamaged, ask_verdict, tell_verdict, best_verdict};
 
+use super::float::within;
+use super::stop::suits;
 use super::view::{gathered_in, is_ended};
-use rules::{Counts, MAX_BUDGET, MAX_COST, MAX_SPREAD, Phase, Refusal, Rule, Search, Simplex};
+use rules::{
+    Counts, MAX_BUDGET, MAX_COST, MAX_SPREAD, Method, Phase, Refusal, Rule, Search, Setup, Simplex,
+};
 
-// Whether a phase's vertex or probe number is one of its trials.
-fn sound_phase(n: usize, readings: u64, phase: Phase) -> bool
+// Whether a phase's vertex or probe number is one of its trials; a companion is asked only where it is unread.
+fn sound_phase(n: usize, readings: u64, numbers: &[u64; 9], phase: Phase) -> bool
     requires { n ≤ 8 }
-    ensures { result ≡ sound_phase n readings phase }
+    ensures { result ≡ sound_phase n readings numbers.now phase }
 {
     match phase {
         Phase::Building(i) => i <= n && (readings == 0 || 1 <= i),
         Phase::Shrinking(j) => 1 <= j && j <= n,
+        Phase::Mirroring(i) => 1 <= i && i <= n,
+        Phase::Checking(i) => 1 <= i && i <= n && numbers[i] == 0,
         Phase::Probing(p) => p < 2 * n,
-        Phase::Reflecting | Phase::Expanding | Phase::Contracting(_) | Phase::Ended(_) => true,
+        Phase::Reflecting
+        | Phase::Expanding
+        | Phase::Contracting(_)
+        | Phase::Basing
+        | Phase::Ended(_) => true,
     }
 }
 
@@ -38,8 +48,10 @@ fn sound_counts(budget: u64, c: &Counts) -> bool
         && c.expansions <= budget
         && c.contractions <= budget
         && c.shrinks <= budget
+        && c.patterns <= budget
         && c.probes <= budget
         && c.unfinished <= budget
+        && c.directed <= budget
 }
 
 // Whether no cost is above the largest. A pass of its own beside that of `in_order`: one loop for both was tried, and took twice the
@@ -58,12 +70,68 @@ fn in_order(costs: &[u64]) -> bool
     costs.is_sorted()
 }
 
-// How many vertices stand: none where place 1 has no reading.
-fn standing_in(n: usize, places: &Simplex) -> usize
+// How many vertices stand: none where place 1 has no reading, and none in the multidirectional method.
+fn standing_in(method: Method, n: usize, places: &Simplex) -> usize
     requires { n ≤ 8 }
-    ensures { result ≡ standing_in n places.now }
+    ensures { result ≡ standing_in method n places.now }
 {
-    if places.numbers[0] == 0 { 0 } else { n + 1 }
+    match method {
+        Method::Multidirectional => 0,
+        Method::NelderMead => {
+            if places.numbers[0] == 0 {
+                0
+            } else {
+                n + 1
+            }
+        }
+    }
+}
+
+// How many gathered vertices are held to cost order: those of Nelder-Mead.
+fn ordered_in(method: Method, phase: Phase) -> usize
+    ensures { result ≡ ordered_in method phase }
+{
+    match method {
+        Method::Multidirectional => 0,
+        Method::NelderMead => gathered_in(phase),
+    }
+}
+
+// Whether companion i lies within the first n axes.
+fn companion_within(setup: &Setup, points: &[f64; 72], i: usize) -> bool
+    requires { (setup.now.n ≤ 8) × (i ≤ 8) }
+    ensures { result ≡ companion_within setup.now points.now i }
+{
+    let mut inside = true;
+    for a in 0..setup.n {
+        inside = inside && within(&setup.axes[a], points[8 * i + a]);
+    }
+    inside
+}
+
+// Whether every companion does.
+fn companions_within(setup: &Setup, points: &[f64; 72]) -> bool
+    requires { setup.now.n ≤ 8 }
+    ensures { result ≡ every (λ k. companion_within setup.now points.now (suc k)) setup.now.n }
+{
+    let mut inside = true;
+    for k in 0..setup.n {
+        inside = inside && companion_within(setup, points, k + 1);
+    }
+    inside
+}
+
+// Whether clamping changes no companion; none stands while the base is asked, and none in Nelder-Mead.
+fn sound_companions(method: Method, phase: Phase, setup: &Setup, points: &[f64; 72]) -> bool
+    requires { setup.now.n ≤ 8 }
+    ensures { result ≡ sound_companions method phase setup.now points.now }
+{
+    match method {
+        Method::NelderMead => true,
+        Method::Multidirectional => {
+            matches!(phase, Phase::Basing) || companions_within(setup, points)
+        }
+    }
 }
 
 // None of the causes of refusal 12, for a search that has not ended.
@@ -77,12 +145,14 @@ fn intact(s: &Search) -> bool
         && sound_counts(s.setup.budget, &s.counts)
         && s.setup.budget <= MAX_BUDGET
         && sound_rule(s.setup.rule)
-        && sound_phase(s.setup.n, s.readings, s.phase)
-        && in_order(&s.standing.costs[..standing_in(s.setup.n, &s.standing)])
-        && in_order(&s.gathered.costs[..gathered_in(s.phase)])
+        && sound_phase(s.setup.n, s.readings, &s.standing.numbers, s.phase)
+        && in_order(&s.standing.costs[..standing_in(s.method, s.setup.n, &s.standing)])
+        && in_order(&s.gathered.costs[..ordered_in(s.method, s.phase)])
         && all_costs(&s.standing.costs)
         && all_costs(&s.gathered.costs)
         && s.best.cost <= MAX_COST
+        && suits(s.method, s.setup.rule)
+        && sound_companions(s.method, s.phase, &s.setup, &s.standing.points)
 }
 
 // Whether refusal 12 lets a search through, as it does each that has ended.

@@ -3,12 +3,12 @@
 ghost use Rattle.std.specs.Prelude.{◌≡◌, true, map, ◌+◌, ◌*◌, ◌≤◌, length, drop};
 ghost use Rattle.rules.specs.Numbers.{max_cost, max_spread};
 ghost use Rattle.rules.specs.Simplex.{place, unpack, cost_of};
-ghost use Rattle.rules.specs.Stop.{total, square, spread_met, apart, norm, scale, all_within, size_met, met};
+ghost use Rattle.rules.specs.Stop.{total, square, spread_met, apart, norm, scale, all_within, size_met, met, suits};
 ghost use Rattle.rules.specs.Calls.{all_costs};
 ghost use Rattle.engine.specs.Ready.{Ready};
 
 use super::place::point_at;
-use rules::{Piece, Rule, Search, Simplex};
+use rules::{Method, Piece, Rule, Search, Simplex};
 
 // A sum of costs, and the sum of their squares.
 #[derive(Clone, Copy)]
@@ -116,5 +116,15 @@ pub(super) fn met(s: &Search, piece: Piece, movement: f64) -> bool
         Rule::Spread(e) => spread_met(s, e),
         Rule::Moved(e) => !matches!(piece, Piece::Build) && movement < e * s.setup.n as f64,
         Rule::Size(e) => size_met(s, e),
+    }
+}
+
+// Whether the rule is one of the method's.
+pub(super) fn suits(method: Method, rule: Rule) -> bool
+    ensures { result ≡ suits method rule }
+{
+    match method {
+        Method::NelderMead => true,
+        Method::Multidirectional => matches!(rule, Rule::Size(_)),
     }
 }

@@ -2,8 +2,8 @@
 // Each coordinate is brought into its axis, and counted where the clamp changes it. The loops write the trial in place, since one given back by each
 // would be copied.
 ghost use Rattle.std.specs.Prelude.{◌≡◌, cond, ◌+◌, ◌≤◌, ◌<◌, set};
-ghost use Rattle.rules.specs.Trial.{brought_in, at_stop, centroid, toward_reflected, toward_worst, made, trial_in};
-ghost use Rattle.rules.specs.declared.Phase.TheVariants.{Building, Reflecting, Shrinking, Probing};
+ghost use Rattle.rules.specs.Trial.{brought_in, at_stop, centroid, toward_reflected, toward_worst, target, made, trial_in};
+ghost use Rattle.rules.specs.declared.Phase.TheVariants.{Building, Reflecting, Shrinking, Mirroring, Checking, Probing};
 ghost use Rattle.engine.specs.Places.{no_trial};
 ghost use Rattle.engine.specs.Ready.{Askable};
 
@@ -13,7 +13,7 @@ use super::point::{build_step, probe_step};
 use rules::{Axis, Phase, Search, Side, Trial};
 
 // Puts the number v on axis a, the next of the trial: within the limits, and a stop where the clamp changes it.
-fn put(trial: &mut Trial, x: &Axis, a: usize, v: f64)
+pub(super) fn put(trial: &mut Trial, x: &Axis, a: usize, v: f64)
     requires { (a < 8) × (trial.old.stops ≤ a) }
     ensures { trial.new ≡ record { point = set trial.old.point a (brought_in x.now v); stops = trial.old.stops + cond (at_stop x.now v) 1 0 } }
 {
@@ -110,6 +110,41 @@ fn shrunk(s: &Search, j: usize, out: &mut Trial)
     }
 }
 
+// The reflection of companion i through the base.
+#[tactic(auto, using(crate::proofs::Laws::Filling::trials), unfolding(rules::specs::Simplex::up_to, rules::specs::Trial::stops_to))]
+fn mirrored(s: &Search, i: usize, out: &mut Trial)
+    requires { (i ≤ s.now.setup.n) × (s.now.setup.n ≤ 8) × (out.old ≡ no_trial) }
+    ensures { out.new ≡ trial_in (Mirroring i) s.now }
+{
+    let n = s.setup.n;
+    let points = &s.standing.points;
+    for a in 0..n {
+        let v = points[a] + (points[a] - points[8 * i + a]);
+        put(out, &s.setup.axes[a], a, v);
+    }
+}
+
+// The point of companion i.
+#[tactic(auto, using(crate::proofs::Laws::Filling::trials), unfolding(rules::specs::Simplex::up_to, rules::specs::Trial::stops_to))]
+fn standing_at(s: &Search, i: usize, out: &mut Trial)
+    requires { (i ≤ s.now.setup.n) × (s.now.setup.n ≤ 8) × (out.old ≡ no_trial) }
+    ensures { out.new ≡ made s.now.setup s.now.setup.n (target s.now (Checking i)) }
+{
+    let n = s.setup.n;
+    for a in 0..n {
+        put(out, &s.setup.axes[a], a, s.standing.points[8 * i + a]);
+    }
+}
+
+// Companion i, with the stops that it was made with.
+fn checked(s: &Search, i: usize, out: &mut Trial)
+    requires { (i ≤ s.now.setup.n) × (s.now.setup.n ≤ 8) × (out.old ≡ no_trial) }
+    ensures { out.new ≡ trial_in (Checking i) s.now }
+{
+    standing_at(s, i, out);
+    out.stops = s.stops[i];
+}
+
 // Probe p of a round.
 #[tactic(auto, using(crate::proofs::Laws::Filling::trials), unfolding(rules::specs::Simplex::up_to, rules::specs::Trial::stops_to))]
 fn probed(s: &Search, p: usize, out: &mut Trial)
@@ -139,6 +174,9 @@ pub(super) fn trial(s: &Search, phase: Phase) -> Trial
         Phase::Contracting(Side::Outside) => along(s, s.setup.coefficients.beta, &mut out),
         Phase::Contracting(Side::Inside) => inside(s, &mut out),
         Phase::Shrinking(j) => shrunk(s, j, &mut out),
+        Phase::Basing => built(s, 0, &mut out),
+        Phase::Mirroring(i) => mirrored(s, i, &mut out),
+        Phase::Checking(i) => checked(s, i, &mut out),
         Phase::Probing(p) => probed(s, p, &mut out),
         Phase::Ended(_) => {}
     }

@@ -1,10 +1,10 @@
 // What a phase is, apart from its own trial and its own row of the table.
 ghost use Rattle.std.specs.Prelude.{◌≡◌};
-ghost use Rattle.rules.specs.View.{view, is_ended, gathered_in, is_probe, open_by};
+ghost use Rattle.rules.specs.View.{view, is_ended, gathered_in, is_probe, open_by, is_directed};
 
 use rules::{Phase, View};
 
-// A build, an iteration, a probe round or the end. A new phase is placed here.
+// A build, an iteration of either method, a probe round or the end. A new phase is placed here.
 fn view(phase: Phase) -> View
     ensures { result ≡ view phase }
 {
@@ -13,6 +13,8 @@ fn view(phase: Phase) -> View
         Phase::Reflecting => View::Iterates(0),
         Phase::Expanding | Phase::Contracting(_) => View::Iterates(1),
         Phase::Shrinking(j) => View::Iterates(j),
+        Phase::Basing => View::Builds(0),
+        Phase::Mirroring(_) | Phase::Checking(_) => View::Turns,
         Phase::Probing(p) => View::Probes(p),
         Phase::Ended(cause) => View::Over(cause),
     }
@@ -25,13 +27,13 @@ pub(super) fn is_ended(phase: Phase) -> bool
     matches!(view(phase), View::Over(_))
 }
 
-// How many vertices the unfinished build or iteration has gathered.
+// How many vertices the unfinished build or iteration has gathered; a multidirectional one gathers none.
 pub(super) fn gathered_in(phase: Phase) -> usize
     ensures { result ≡ gathered_in phase }
 {
     match view(phase) {
         View::Builds(k) | View::Iterates(k) => k,
-        View::Probes(_) | View::Over(_) => 0,
+        View::Turns | View::Probes(_) | View::Over(_) => 0,
     }
 }
 
@@ -45,13 +47,23 @@ pub(super) fn is_probe(phase: Phase) -> u64
     }
 }
 
-// What it adds to the open readings: the very first reading, trial 0 of a build, is not open.
+// What it adds to the open readings: the very first reading, trial 0 of a build or the base, is not open.
 pub(super) fn open_by(phase: Phase) -> u64
     ensures { result ≡ open_by phase }
 {
     match view(phase) {
         View::Builds(0) => 0,
         View::Builds(_) | View::Iterates(_) => 1,
-        View::Probes(_) | View::Over(_) => 0,
+        View::Turns | View::Probes(_) | View::Over(_) => 0,
+    }
+}
+
+// What it adds to the readings in multidirectional iterations.
+pub(super) fn is_directed(phase: Phase) -> u64
+    ensures { result ≡ is_directed phase }
+{
+    match view(phase) {
+        View::Turns => 1,
+        _ => 0,
     }
 }
