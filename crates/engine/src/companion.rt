@@ -58,15 +58,13 @@ fn unread(x: Trial) -> Made
     ensures vertex { result.vertex ≡ unread_at x }
     ensures stops { result.stops ≡ x.stops }
 {
+    let Trial { point, stops } = x;
     let vertex = Vertex {
-        point: x.point,
+        point,
         cost: 0,
         number: 0,
     };
-    Made {
-        vertex,
-        stops: x.stops,
-    }
+    Made { vertex, stops }
 }
 
 // Companion i after a change.

@@ -6,8 +6,8 @@ ghost use Rattle.rules.specs.Opening.{in_range, all_in_range, in_limits, in_ring
 use super::place::blank;
 use super::stop::suits;
 use rules::{
-    Axis, Cause, Coefficients, Counts, MAX_BUDGET, MAX_SPREAD, Method, Opening, Phase, Refusal, Rule,
-    Search, Setup, Vertex,
+    Axis, Cause, Coefficients, Counts, MAX_BUDGET, MAX_SPREAD, Method, Opening, Phase, Refusal,
+    Rule, Search, Setup, Vertex,
 };
 
 // Whether -1,048,576 ≤ v ≤ 1,048,576. Written out, since a NaN must fail it.

@@ -72,7 +72,11 @@ fn opens(method: Method) -> Phase
 fn tested_phase(met: bool, method: Method) -> Phase
     ensures { result ≡ tested_phase met method }
 {
-    if met { Phase::Probing(0) } else { opens(method) }
+    if met {
+        Phase::Probing(0)
+    } else {
+        opens(method)
+    }
 }
 
 // The phase that the decision leads to.

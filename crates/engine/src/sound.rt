@@ -77,13 +77,7 @@ fn standing_in(method: Method, n: usize, places: &Simplex) -> usize
 {
     match method {
         Method::Multidirectional => 0,
-        Method::NelderMead => {
-            if places.numbers[0] == 0 {
-                0
-            } else {
-                n + 1
-            }
-        }
+        Method::NelderMead => { if places.numbers[0] == 0 { 0 } else { n + 1 } }
     }
 }
 

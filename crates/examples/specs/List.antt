@@ -20,4 +20,4 @@ calls_of = map call_of
 
 -- demand 3: the whole record of claims, where the opening is not refused
 abbrev pub Claimed : Opening → List Call → Opened → Type 0
-Claimed g calls r = r.verdict ≡ Ok tt → let o = (opening g.n g.axes g.rule g.coefficients g.budget).search in Claims o (history o calls) r.search
+Claimed g calls r = r.verdict ≡ Ok tt → let o = (opening g.method g.n g.axes g.rule g.coefficients g.budget).search in Claims o (history o calls) r.search

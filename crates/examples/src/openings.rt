@@ -1,5 +1,5 @@
 // The openings of the cases, over axes and rings from -8 with step 1, and their searches.
-use rules::{Axis, Opening, Rule, Search, USUAL};
+use rules::{Axis, Method, Opening, Rule, Search, USUAL};
 
 // An axis from -8 to hi, step 1.
 pub(super) fn axis(start: f64, hi: f64) -> Axis {
@@ -23,6 +23,7 @@ pub(super) fn ring(start: f64, hi: f64) -> Axis {
 // An opening over n axes from -8 to hi, all with this start and step 1, and the usual coefficients.
 pub(super) fn opening(n: usize, start: f64, hi: f64, rule: Option<Rule>, budget: u64) -> Opening {
     Opening {
+        method: Method::NelderMead,
         n,
         axes: [axis(start, hi); 8],
         rule,

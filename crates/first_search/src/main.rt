@@ -2,7 +2,7 @@
 
 #![tactic(auto)]
 
-use rules::{Axis, Opening, Refusal, USUAL, Vertex};
+use rules::{Axis, Method, Opening, Refusal, USUAL, Vertex};
 use std::io;
 use std::num::saturating_f64_to_u64;
 
@@ -19,6 +19,7 @@ fn opening() -> Opening {
         ring: false,
     };
     Opening {
+        method: Method::NelderMead,
         n: 2,
         axes: [axis; 8],
         rule: None,

@@ -2,7 +2,7 @@
 use super::parts;
 use super::script::Command;
 use super::series::{self, Total};
-use rules::{Asked, Refusal, Search, Vertex};
+use rules::{Asked, Method, Refusal, Search, Vertex};
 
 // What a command is answered.
 #[derive(Clone, Copy)]
@@ -34,7 +34,7 @@ pub(super) fn axis_of(verdict: &Result<(), Refusal>) -> u64 {
 
 // The closed search, which any refused opening gives, as one on no axes.
 pub(super) fn closed() -> Search {
-    engine::open_search(&series::opening(0)).search
+    engine::open_search(&series::opening(Method::NelderMead, 0)).search
 }
 
 // Does what a command says. A value and no closure: it is read from text.
@@ -53,6 +53,10 @@ pub(super) fn make(search: &mut Search, command: Command) -> Answer {
             parts::put(search, part);
             Answer::Put
         }
-        Command::Series { n, readings } => Answer::Series(series::run(n, readings)),
+        Command::Series {
+            method,
+            n,
+            readings,
+        } => Answer::Series(series::run(method, n, readings)),
     }
 }

@@ -1,8 +1,8 @@
 // The parts of a search that a script can write, as no call would (docs/REPLAY.md).
 use numerals::float_of;
-use rules::{Cause, Counts, Phase, Rule, Search, Side};
+use rules::{Cause, Counts, Method, Phase, Rule, Search, Side};
 
-// One of the seven counts.
+// One of the nine counts.
 #[derive(Clone, Copy)]
 pub(super) enum Count {
     Builds,
@@ -12,6 +12,8 @@ pub(super) enum Count {
     Shrinks,
     Probes,
     Open,
+    Patterns,
+    Directed,
 }
 
 // A part with what is written there. Places and axes count from 0 here.
@@ -32,6 +34,17 @@ pub(super) enum Part {
     GatheredNumber(usize, u64),
     BestNumber(u64),
     Ring(usize, bool),
+    Method(Method),
+    Stops(usize, u64),
+}
+
+// The method that a number names.
+pub(super) fn method_of(kind: u64) -> Option<Method> {
+    match kind {
+        0 => Some(Method::NelderMead),
+        1 => Some(Method::Multidirectional),
+        _ => None,
+    }
 }
 
 // Whether an axis is a ring: 0 or 1.
@@ -65,6 +78,9 @@ fn phase_of(kind: u64, detail: u64) -> Option<Phase> {
         6 => Some(Phase::Probing(detail as usize)),
         7 => Some(Phase::Ended(Cause::Settled)),
         8 => Some(Phase::Ended(Cause::Budget)),
+        9 => Some(Phase::Basing),
+        10 => Some(Phase::Mirroring(detail as usize)),
+        11 => Some(Phase::Checking(detail as usize)),
         _ => None,
     }
 }
@@ -79,6 +95,8 @@ fn count_of(which: u64) -> Option<Count> {
         5 => Some(Count::Shrinks),
         6 => Some(Count::Probes),
         7 => Some(Count::Open),
+        8 => Some(Count::Patterns),
+        9 => Some(Count::Directed),
         _ => None,
     }
 }
@@ -117,6 +135,8 @@ pub(super) fn part_of(part: u64, which: u64, value: u64) -> Option<Part> {
         (12, _) => Some(Part::GatheredNumber(place_of(which)?, value)),
         (13, 0) => Some(Part::BestNumber(value)),
         (14, _) => Some(Part::Ring(axis_of(which)?, ring_of(value)?)),
+        (15, 0) => Some(Part::Method(method_of(value)?)),
+        (16, _) => Some(Part::Stops(place_of(which)?, value)),
         _ => None,
     }
 }
@@ -131,10 +151,12 @@ fn put_count(counts: &mut Counts, count: Count, value: u64) {
         Count::Shrinks => counts.shrinks = value,
         Count::Probes => counts.probes = value,
         Count::Open => counts.unfinished = value,
+        Count::Patterns => counts.patterns = value,
+        Count::Directed => counts.directed = value,
     }
 }
 
-// Writes the cost or the number at a place.
+// Writes the cost, the number or the stops at a place.
 fn put_at(run: &mut [u64; 9], place: usize, value: u64) {
     if let Some(entry) = run.get_mut(place) {
         *entry = value;
@@ -171,5 +193,7 @@ pub(super) fn put(search: &mut Search, part: Part) {
                 record.ring = ring;
             }
         }
+        Part::Method(method) => search.method = method,
+        Part::Stops(place, stops) => put_at(&mut search.stops, place, stops),
     }
 }

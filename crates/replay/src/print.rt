@@ -2,7 +2,7 @@
 use super::calls::{Answer, axis_of, number_of};
 use super::series::Total;
 use numerals::bits_of;
-use rules::{Asked, Axis, Cause, Phase, Rule, Search, Setup, Side, Simplex, Vertex};
+use rules::{Asked, Axis, Cause, Method, Phase, Rule, Search, Setup, Side, Simplex, Vertex};
 use std::fmt::{Display, Formatter};
 use std::{fmt, io};
 
@@ -36,7 +36,7 @@ fn vertex<W: fmt::Write>(f: &mut Formatter<W>, vertex: &Vertex) -> fmt::Result {
     write!(f, "{with_cost}{}", Words(&[vertex.number]))
 }
 
-// The phase's number in docs/REPLAY.md, and its detail: the vertices or probes that an unfinished piece has so far.
+// The phase's number in docs/REPLAY.md, and its detail: the vertices or probes that an unfinished piece has so far, or the companion.
 fn numbered(phase: Phase) -> (u64, u64) {
     match phase {
         Phase::Building(built) => (0, built as u64),
@@ -48,6 +48,9 @@ fn numbered(phase: Phase) -> (u64, u64) {
         Phase::Probing(told) => (6, told as u64),
         Phase::Ended(Cause::Settled) => (7, 0),
         Phase::Ended(Cause::Budget) => (8, 0),
+        Phase::Basing => (9, 0),
+        Phase::Mirroring(companion) => (10, companion as u64),
+        Phase::Checking(companion) => (11, companion as u64),
     }
 }
 
@@ -77,6 +80,14 @@ impl Display for Answer {
     }
 }
 
+// A method's number in docs/REPLAY.md.
+fn by_method(method: Method) -> u64 {
+    match method {
+        Method::NelderMead => 0,
+        Method::Multidirectional => 1,
+    }
+}
+
 // A rule's number in docs/REPLAY.md, and its threshold as a word.
 fn ruled(rule: Rule) -> (u64, u64) {
     match rule {
@@ -100,7 +111,7 @@ fn axis<W: fmt::Write>(f: &mut Formatter<W>, axis: &Axis) -> fmt::Result {
     write!(f, "{}{words}", Words(&numbers.map(bits_of)))
 }
 
-// What the opening fixed, in the words of an `o` line.
+// What the opening fixed, in the words of an `o` line, after the method.
 fn setup<W: fmt::Write>(f: &mut Formatter<W>, setup: &Setup) -> fmt::Result {
     let (kind, threshold) = ruled(setup.rule);
     let by = setup.coefficients;
@@ -134,6 +145,8 @@ fn progress<W: fmt::Write>(f: &mut Formatter<W>, search: &Search) -> fmt::Result
         counts.shrinks,
         counts.probes,
         counts.unfinished,
+        counts.patterns,
+        counts.directed,
     ];
     write!(f, "{}", Words(&words))
 }
@@ -155,13 +168,14 @@ fn places<W: fmt::Write>(f: &mut Formatter<W>, simplex: &Simplex) -> fmt::Result
 
 // The state line: every part of a search.
 fn state<W: fmt::Write>(f: &mut Formatter<W>, search: &Search) -> fmt::Result {
-    write!(f, "s")?;
+    write!(f, "s{}", Words(&[by_method(search.method)]))?;
     setup(f, &search.setup)?;
     progress(f, search)?;
     vertex(f, &search.best)?;
     write!(f, "{}", Words(&search.center.map(bits_of)))?;
     places(f, &search.standing)?;
-    places(f, &search.gathered)
+    places(f, &search.gathered)?;
+    write!(f, "{}", Words(&search.stops))
 }
 
 // The line that says that the script's line of this number is malformed.

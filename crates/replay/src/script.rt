@@ -2,18 +2,25 @@
 use super::parts::{self, Part};
 use arrayvec::ArrayVec;
 use numerals::{float_of, from_digits};
-use rules::{Axis, Coefficients, Opening};
+use rules::{Axis, Coefficients, Method, Opening};
 
-// What a line says. Letters and the kinds of a rule are matched once, here at the edge: a script is text.
+// What a line says. Letters, methods and the kinds of a rule are matched once, here at the edge: a script is text.
 #[derive(Clone, Copy)]
 pub(super) enum Command {
     Open(Opening),
     Ask,
-    Tell { number: u64, cost: u64 },
+    Tell {
+        number: u64,
+        cost: u64,
+    },
     Best,
     State,
     Put(Part),
-    Series { n: usize, readings: u64 },
+    Series {
+        method: Method,
+        n: usize,
+        readings: u64,
+    },
 }
 
 // The most readings of a series.
@@ -27,8 +34,8 @@ fn word(field: &[u8]) -> Option<u64> {
     }
 }
 
-// The words that the fields of a line say, of which no line has more than forty-eight.
-fn words(fields: &[u8]) -> Option<ArrayVec<u64, 48>> {
+// The words that the fields of a line say, of which no line has more than forty-nine.
+fn words(fields: &[u8]) -> Option<ArrayVec<u64, 49>> {
     let mut words = ArrayVec::new();
     for field in fields.chunks(17) {
         words.try_push(word(field)?).ok()?;
@@ -60,10 +67,10 @@ fn axes_of(words: &[u64]) -> Option<[Axis; 8]> {
     Some(axes)
 }
 
-// The opening that forty-eight words say, if they name a rule or none.
+// The opening that forty-nine words say, if they name a method, and a rule or none.
 fn opening_of(words: &[u64]) -> Option<Opening> {
-    let (first, records) = words.split_first_chunk::<8>()?;
-    let [n, kind, threshold, alpha, chi, beta, sigma, budget] = *first;
+    let (first, records) = words.split_first_chunk::<9>()?;
+    let [method, n, kind, threshold, alpha, chi, beta, sigma, budget] = *first;
     let axes = axes_of(records)?;
     let rule = match kind {
         0 => None,
@@ -76,6 +83,7 @@ fn opening_of(words: &[u64]) -> Option<Opening> {
         sigma: float_of(sigma),
     };
     Some(Opening {
+        method: parts::method_of(method)?,
         n: n as usize,
         axes,
         rule,
@@ -95,7 +103,8 @@ pub(super) fn command_of(line: &[u8]) -> Option<Command> {
         (b'b', &[]) => Some(Command::Best),
         (b's', &[]) => Some(Command::State),
         (b'p', &[part, which, value]) => parts::part_of(part, which, value).map(Command::Put),
-        (b'r', &[n, readings]) if readings <= MOST_READINGS => Some(Command::Series {
+        (b'r', &[method, n, readings]) if readings <= MOST_READINGS => Some(Command::Series {
+            method: parts::method_of(method)?,
             n: n as usize,
             readings,
         }),

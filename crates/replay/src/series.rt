@@ -1,7 +1,7 @@
 // A series of searches with a generated cost.
 use super::calls;
 use numerals::{bits_of, float_of};
-use rules::{Axis, MAX_BUDGET, Opening, Refusal, USUAL};
+use rules::{Axis, MAX_BUDGET, Method, Opening, Refusal, Rule, USUAL};
 
 // What a series told: how many searches, and the sum of their costs.
 #[derive(Clone, Copy, Default)]
@@ -36,8 +36,16 @@ fn cost_of(point: &[f64; 8], around: &[f64; 8]) -> u64 {
     bits_of(sum) >> 40
 }
 
+// The rule that an opening of a series names: none in Nelder-Mead.
+fn rule_of(method: Method) -> Option<Rule> {
+    match method {
+        Method::NelderMead => None,
+        Method::Multidirectional => Some(Rule::Size(0.0009765625)),
+    }
+}
+
 // The opening of every search of a series.
-pub(super) fn opening(n: usize) -> Opening {
+pub(super) fn opening(method: Method, n: usize) -> Opening {
     let axis = Axis {
         lo: -8.0,
         hi: 8.0,
@@ -46,17 +54,18 @@ pub(super) fn opening(n: usize) -> Opening {
         ring: false,
     };
     Opening {
+        method,
         n,
         axes: [axis; 8],
-        rule: None,
+        rule: rule_of(method),
         coefficients: USUAL,
         budget: MAX_BUDGET,
     }
 }
 
 // A series on n axes, so many readings in all: a search that refuses to be asked has ended, and the next one takes its place.
-pub(super) fn run(n: usize, readings: u64) -> Result<Total, Refusal> {
-    let opened = engine::open_search(&opening(n));
+pub(super) fn run(method: Method, n: usize, readings: u64) -> Result<Total, Refusal> {
+    let opened = engine::open_search(&opening(method, n));
     opened.verdict?;
     let fresh = opened.search;
     let mut search = calls::closed();

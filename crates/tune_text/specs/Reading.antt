@@ -13,6 +13,7 @@ use Rattle.rules.specs.declared.Cause.{Cause}
 use Rattle.rules.specs.declared.Refusal.{Refusal}
 use Rattle.rules.specs.declared.Vertex.{Vertex}
 use Rattle.rules.specs.declared.Opened.{Opened}
+use Rattle.rules.specs.declared.Method.TheVariants.{NelderMead}
 use Rattle.rules.specs.declared.Phase.{Phase}
 use Rattle.rules.specs.declared.Phase.TheVariants.{Ended}
 use Rattle.rules.specs.declared.Rule.TheVariants.{Spread}
@@ -43,7 +44,7 @@ nothing_read = record { stage = Head; request = record { n = 0; budget = 0; spre
 
 -- the opening that the lines ask for: "a line with n, budget and spread E (coefficients are the usual ones)"
 abbrev pub opening_of : Request → Opened
-opening_of q = opening q.n q.axes (Some (Spread q.spread)) usual q.budget
+opening_of q = opening NelderMead q.n q.axes (Some (Spread q.spread)) usual q.budget
 
 -- the turn of an opening with this verdict: costs follow an accepted one; a refused one is printed and ends
 abbrev pub turn_opened : Verdict → Request → Search → Turned

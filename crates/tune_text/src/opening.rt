@@ -7,7 +7,7 @@ ghost use Rattle.tune_text.specs.Handed.{turn_of};
 
 use super::lines;
 use crate::{Line, Progress, Request, Stage};
-use rules::{Opened, Opening, Refusal, Rule, USUAL};
+use rules::{Method, Opened, Opening, Refusal, Rule, USUAL};
 
 // Before the first line. The closed search is that of an opening with no axis, which is refused.
 #[tactic(auto, using(crate::proofs::Laws::Reading::nothings), unfolding(crate::specs::Reading::nothing_read))]
@@ -35,6 +35,7 @@ impl Request {
         ensures { result ≡ opening_of self.now }
     {
         engine::open_search(&Opening {
+            method: Method::NelderMead,
             n: self.n,
             axes: self.axes,
             rule: Some(Rule::Spread(self.spread)),

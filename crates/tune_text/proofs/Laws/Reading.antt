@@ -16,6 +16,7 @@ use Rattle.rules.specs.Refusals.{Verdict}
 use Rattle.rules.specs.Calls.{tell_verdict, told_by, telling}
 use Rattle.rules.specs.declared.Refusal.{Refusal}
 use Rattle.rules.specs.Opening.{zero_axis, closed, opening, open_verdict}
+use Rattle.rules.specs.declared.Method.{Method}
 use Rattle.rules.specs.declared.Rule.{Rule}
 use Rattle.rules.specs.declared.Axis.{Axis}
 use Rattle.rules.specs.declared.Coefficients.{Coefficients}
@@ -50,9 +51,9 @@ default_request q h =
     (record { n = 0; budget = 0; spread = 0; axes = replicate 8 zero_axis }) = rw (h.0, h.1.0, h.1.1.0, default_axes q.axes h.1.1.1) in e
 
 -- an opening with no axis gives the closed search
-pub no_axis_closed : (axes : List Axis) (rule : Option Rule) (c : Coefficients) (budget : ℕ) → (opening 0 axes rule c budget).search ≡ closed
+pub no_axis_closed : (m : Method) (axes : List Axis) (rule : Option Rule) (c : Coefficients) (budget : ℕ) → (opening m 0 axes rule c budget).search ≡ closed
 unfolding opening open_verdict
-no_axis_closed axes rule c budget = refl
+no_axis_closed m axes rule c budget = refl
 
 -- a refused tell leaves the search as it is
 pub told_unchanged : (s : Search) (number cost : ℕ) (r : Refusal) → (telling s number cost).verdict ≡ Err r → (telling s number cost).search ≡ s
