@@ -7,15 +7,15 @@ use mathlib.Core.List.{List, []}
 use lib.Ieee.{Float}
 use Rattle.rules.specs.Numbers.{max_cost}
 use Rattle.rules.specs.Simplex.{pack, unpack, insert}
-use Rattle.rules.specs.Accept.{entrant, standing_after, gathered_after}
+use Rattle.rules.specs.Accept.{entrant, standing_after, stops_after, gathered_after}
 use Rattle.rules.specs.Calls.{all_costs}
 use Rattle.rules.specs.declared.Vertex.{Vertex}
 use Rattle.rules.specs.declared.Simplex.{Simplex}
 use Rattle.rules.specs.declared.Search.{Search}
 use Rattle.rules.specs.declared.Newcomer.TheVariants.{Latest, Reflected}
-use Rattle.rules.specs.declared.Keeping.TheVariants.{Nothing, Joined, First}
+use Rattle.rules.specs.declared.Keeping.TheVariants.{Nothing, Joined, First, Told, Read}
 use Rattle.rules.specs.declared.Decision.{Decision}
-use Rattle.rules.specs.declared.Decision.TheVariants.{Go, Take, Stand, Restart}
+use Rattle.rules.specs.declared.Decision.TheVariants.{Go, Take, Stand, Restart, Regroup}
 use Rattle.rules.proofs.Laws.Places.{costs_pack}
 use Rattle.engine.specs.Places.{Holds}
 use Rattle.engine.specs.Ready.{Ready}
@@ -32,6 +32,7 @@ entrant_low s (Take piece Latest) x c k u f h l = rw f l
 entrant_low s (Go keeping next) x c k u f h l = rw f l
 entrant_low s (Stand piece) x c k u f h l = rw f l
 entrant_low s Restart x c k u f h l = rw f l
+entrant_low s (Regroup change) x c k u f h l = rw f l
 
 -- ---- the places
 
@@ -52,13 +53,16 @@ pub ready_gathered : (s : Search) (w : Simplex) → Ready s → all_costs w.cost
 ready_gathered s w h k = record { low = h.low; high = h.high; rule = h.rule; phase = h.phase; live = h.live; counts = h.counts; standing = h.standing; gathered = k }
 
 -- the gathered places after a decision do not ask for the standing ones that it leaves
-pub gathered_then : (d : Decision) (u : Vertex) (s : Search) → gathered_after d u (record s { standing = standing_after d u s }) ≡ gathered_after d u s
+pub gathered_then : (d : Decision) (u : Vertex) (s : Search) → gathered_after d u (record s { standing = standing_after d u s; stops = stops_after d u s }) ≡ gathered_after d u s
 gathered_then (Go Nothing next) u s = refl
 gathered_then (Go Joined next) u s = refl
 gathered_then (Go First next) u s = refl
+gathered_then (Go (Told i) next) u s = refl
+gathered_then (Go (Read i) next) u s = refl
 gathered_then (Take piece who) u s = refl
 gathered_then (Stand piece) u s = refl
 gathered_then Restart u s = refl
+gathered_then (Regroup change) u s = refl
 
 -- the laws that the changed places take
 pub ruleset places = (low_with, low_blank, cost_low, ready_standing, ready_gathered, insert_none)

@@ -6,10 +6,12 @@ use Rattle.rules.specs.Trial.{no_axis}
 use Rattle.rules.specs.Numbers.{max_budget}
 use Rattle.rules.specs.Refusals.{Verdict, check}
 use Rattle.rules.specs.Opening.{axis_checks, axes_checks, in_coefficients, in_threshold, rule_of, open_verdict}
+use Rattle.rules.specs.Stop.{suits}
 use Rattle.rules.specs.declared.Axis.{Axis}
 use Rattle.rules.specs.declared.Coefficients.{Coefficients}
+use Rattle.rules.specs.declared.Method.{Method}
 use Rattle.rules.specs.declared.Rule.{Rule}
-use Rattle.rules.specs.declared.Refusal.TheVariants.{AxisCount, BadCoefficient, BadThreshold, BadBudget}
+use Rattle.rules.specs.declared.Refusal.TheVariants.{AxisCount, BadCoefficient, BadThreshold, BadBudget, RuleOfMethod}
 use Rattle.engine.proofs.Laws.Checking.{and_then, check_then}
 
 -- ---- the checks of the axes
@@ -37,17 +39,17 @@ axes_first n i xs l =
     let next : suc i ≡ i + 1 = omega arith in
     rw (axis_then, more, next)
 
--- where check 1 passes, the verdict is that of the checks of the axes, and of checks 5 to 7 after them
-pub open_after_axes : (n : ℕ) (axes : List Axis) (rule : Option Rule) (c : Coefficients) (budget : ℕ) → 1 ≤ n → n ≤ 8
-    → open_verdict n axes rule c budget
-    ≡ and_then (axes_checks n 0 axes (Ok tt)) (check (in_coefficients c) BadCoefficient (check (in_threshold (rule_of rule)) BadThreshold (check (leb (n + 1) budget && leb budget max_budget) BadBudget (Ok tt))))
+-- where check 1 passes, the verdict is that of the checks of the axes, and of checks 5, 6, 14 and 7 after them
+pub open_after_axes : (m : Method) (n : ℕ) (axes : List Axis) (rule : Option Rule) (c : Coefficients) (budget : ℕ) → 1 ≤ n → n ≤ 8
+    → open_verdict m n axes rule c budget
+    ≡ and_then (axes_checks n 0 axes (Ok tt)) (check (in_coefficients c) BadCoefficient (check (in_threshold (rule_of rule)) BadThreshold (check (suits m (rule_of rule)) RuleOfMethod (check (leb (n + 1) budget && leb budget max_budget) BadBudget (Ok tt)))))
 unfolding open_verdict
-open_after_axes n axes rule c budget low high = rw (le-leb 1 n low, le-leb n 8 high, axes_with n 0 axes (axes_checks n 0 axes (Ok tt)) _ refl)
+open_after_axes m n axes rule c budget low high = rw (le-leb 1 n low, le-leb n 8 high, axes_with n 0 axes (axes_checks n 0 axes (Ok tt)) _ refl)
 
 -- fewer axes than one, or more than eight
-pub open_bad : (n : ℕ) (axes : List Axis) (rule : Option Rule) (c : Coefficients) (budget : ℕ) → (n < 1) ⊎ (8 < n) → open_verdict n axes rule c budget ≡ Err AxisCount
+pub open_bad : (m : Method) (n : ℕ) (axes : List Axis) (rule : Option Rule) (c : Coefficients) (budget : ℕ) → (n < 1) ⊎ (8 < n) → open_verdict m n axes rule c budget ≡ Err AxisCount
 unfolding open_verdict
-open_bad n axes rule c budget h = ⊎_elim (λ l. rw (lt-leb 1 n l)) (λ m. rw (le-leb 1 n (omega arith), lt-leb n 8 m)) h
+open_bad m n axes rule c budget h = ⊎_elim (λ l. rw (lt-leb 1 n l)) (λ m. rw (le-leb 1 n (omega arith), lt-leb n 8 m)) h
 
 -- what an opening's checks take
 pub ruleset opens = (open_after_axes, open_bad)

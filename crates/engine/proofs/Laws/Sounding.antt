@@ -20,11 +20,11 @@ use Rattle.rules.specs.Calls.{sound_phase, sound_counts, in_order, sound, intact
 use Rattle.rules.specs.View.{is_ended, gathered_in}
 use Rattle.rules.specs.declared.Search.{Search}
 use Rattle.rules.specs.declared.Phase.{Phase}
-use Rattle.rules.specs.declared.Phase.TheVariants.{Building, Shrinking}
+use Rattle.rules.specs.declared.Phase.TheVariants.{Building, Reflecting, Expanding, Contracting, Shrinking, Basing, Mirroring, Checking, Probing, Ended}
 use Rattle.rules.specs.declared.Counts.{Counts}
 use Rattle.rules.specs.declared.Refusal.TheVariants.{SearchEnded, Damaged}
 use Rattle.rules.proofs.Laws.Openings.{check_iff}
-use Rattle.engine.specs.Ready.{Askable, Ready}
+use Rattle.engine.specs.Ready.{companion_in, Askable, Ready}
 
 -- ---- costs in order
 
@@ -62,11 +62,30 @@ pub ruleset orders = (in_order_if, in_order_not)
 counts_most : (b : ℕ) (c : Counts) → sound_counts b c ≡ true → b ≤ max_budget → sound_counts max_budget c ≡ true
 counts_most b c h l = grind (arith, nat_tests)
 
+-- a phase that is sound by the companions that have been read is sound whichever have been
+phase_whichever : (n readings : ℕ) (ns : List ℕ) (p : Phase) → sound_phase n readings ns p ≡ true → sound_phase n readings [] p ≡ true
+phase_whichever n readings ns (Building i) h = h
+phase_whichever n readings ns Reflecting h = h
+phase_whichever n readings ns Expanding h = h
+phase_whichever n readings ns (Contracting side) h = h
+phase_whichever n readings ns (Shrinking j) h = h
+phase_whichever n readings ns Basing h = h
+phase_whichever n readings ns (Mirroring i) h = h
+phase_whichever n readings ns (Checking i) h = grind (arith, nat_tests)
+phase_whichever n readings ns (Probing p) h = h
+phase_whichever n readings ns (Ended cause) h = h
+
 -- a sound phase has gathered no more vertices than there are axes
-gathered_most : (n readings : ℕ) (p : Phase) → 1 ≤ n → sound_phase n readings p ≡ true → gathered_in p ≤ n
-gathered_most n readings (Building i) l h = leb-true i n ((and-eq-true_iff (leb i n) _).0 h).0
-gathered_most n readings (Shrinking j) l h = leb-true j n ((and-eq-true_iff (leb 1 j) (leb j n)).0 h).1
-gathered_most n readings _ l h = omega arith
+gathered_most : (n readings : ℕ) (ns : List ℕ) (p : Phase) → 1 ≤ n → sound_phase n readings ns p ≡ true → gathered_in p ≤ n
+gathered_most n readings ns (Building i) l h = leb-true i n ((and-eq-true_iff (leb i n) _).0 h).0
+gathered_most n readings ns (Shrinking j) l h = leb-true j n ((and-eq-true_iff (leb 1 j) (leb j n)).0 h).1
+gathered_most n readings ns _ l h = omega arith
+
+-- and its companion is one of them
+companion_most : (n readings : ℕ) (ns : List ℕ) (p : Phase) → sound_phase n readings ns p ≡ true → companion_in p ≤ n
+companion_most n readings ns (Mirroring i) h = grind (arith, nat_tests)
+companion_most n readings ns (Checking i) h = grind (arith, nat_tests)
+companion_most n readings ns _ h = omega arith
 
 module _ (s : Search) (h : (intact s ≡ true) × (is_ended s.phase ≡ false)) where
   -- an intact search that has not ended has what every step needs
@@ -80,7 +99,7 @@ module _ (s : Search) (h : (intact s ≡ true) × (is_ended s.phase ≡ false)) 
         low = omega (arith, leb-true);
         high = omega (arith, leb-true);
         rule = search;
-        phase = search;
+        phase = phase_whichever s.setup.n s.readings s.standing.numbers s.phase search;
         live = h.1;
         counts = counts_most s.setup.budget s.counts fit much;
         standing = search;
@@ -94,7 +113,7 @@ module _ (s : Search) (h : (intact s ≡ true) × (is_ended s.phase ≡ false)) 
 
 -- a search that is ready can be asked for the trial of its own phase
 askable_now : (s : Search) → Ready s → Askable s s.phase
-askable_now s h = record { low = h.low; high = h.high; fits = gathered_most s.setup.n s.readings s.phase h.low h.phase; live = h.live }
+askable_now s h = record { low = h.low; high = h.high; fits = gathered_most s.setup.n s.readings [] s.phase h.low h.phase; turns = companion_most s.setup.n s.readings [] s.phase h.phase; live = h.live }
 
 -- a search that is refused neither as damaged nor as ended is intact and has not ended
 unrefused : (s : Search) (v : Verdict) → check (undamaged s) Damaged (check (not (is_ended s.phase)) SearchEnded v) ≡ Ok tt → (intact s ≡ true) × (is_ended s.phase ≡ false)
