@@ -6,3 +6,4 @@ pub mod Stopping
 pub mod Accepting
 pub mod Sounding
 pub mod Opening
+pub mod Turning

@@ -40,8 +40,9 @@ fn halved(s: &Search, i: usize, out: &mut Trial)
 {
     let points = &s.standing.points;
     for a in 0..s.setup.n {
-        let x = points[8 * i + a];
-        trial::put(out, &s.setup.axes[a], a, moved_from(x, 0.5, points[a], x));
+        let x = &s.setup.axes[a];
+        let v = moved_from(points[8 * i + a], 0.5, points[a], points[8 * i + a]);
+        trial::put(out, x, a, v);
     }
 }
 

@@ -46,6 +46,7 @@ fn lower(s: &Search, cost: u64) -> bool
 
 // The first unread companion of n, from the i-th on, by the numbers of the places; n + 1 where there is none. At each call one companion
 // fewer is left.
+#[tactic(auto, using(crate::proofs::Laws::Turning::nexts))]
 fn next_unread(n: usize, numbers: &[u64; 9], i: usize) -> usize
     requires { n ≤ 8 }
     ensures { result ≡ next_unread n numbers.now i }

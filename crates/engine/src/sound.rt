@@ -1,6 +1,7 @@
 // The verdicts of the later calls: refusal 12, then 8 to 11. Where n ≤ 8 is asked for, `intact` has just tested it: no type holds it of a
 // search that may be made up.
-ghost use Rattle.std.specs.Prelude.{◌≡◌, suc, ◌≤◌};
+ghost use Rattle.std.specs.Prelude.{◌≡◌, ◌&&◌, suc, ◌≤◌};
+ghost use Rattle.rules.specs.Stop.{suits};
 ghost use Rattle.rules.specs.Calls.{sound_phase, standing_in, ordered_in, in_order, all_costs, sound_rule, sound_counts, every, companion_within, sound_companions, intact, undamaged, ask_verdict, tell_verdict, best_verdict};
 
 use super::float::within;
@@ -92,6 +93,7 @@ fn ordered_in(method: Method, phase: Phase) -> usize
 }
 
 // Whether companion i lies within the first n axes.
+#[tactic(auto, unfolding(rules::specs::Calls::every))]
 fn companion_within(setup: &Setup, points: &[f64; 72], i: usize) -> bool
     requires { (setup.now.n ≤ 8) × (i ≤ 8) }
     ensures { result ≡ companion_within setup.now points.now i }
@@ -104,6 +106,7 @@ fn companion_within(setup: &Setup, points: &[f64; 72], i: usize) -> bool
 }
 
 // Whether every companion does.
+#[tactic(auto, unfolding(rules::specs::Calls::every))]
 fn companions_within(setup: &Setup, points: &[f64; 72]) -> bool
     requires { setup.now.n ≤ 8 }
     ensures { result ≡ every (λ k. companion_within setup.now points.now (suc k)) setup.now.n }
@@ -128,6 +131,15 @@ fn sound_companions(method: Method, phase: Phase, setup: &Setup, points: &[f64; 
     }
 }
 
+// Whether the rule and the companions fit the method.
+fn fits_method(s: &Search) -> bool
+    requires { s.now.setup.n ≤ 8 }
+    ensures { result ≡ (suits s.now.method s.now.setup.rule && sound_companions s.now.method s.now.phase s.now.setup s.now.standing.points) }
+{
+    suits(s.method, s.setup.rule)
+        && sound_companions(s.method, s.phase, &s.setup, &s.standing.points)
+}
+
 // None of the causes of refusal 12, for a search that has not ended.
 #[tactic(auto, unfolding(rules::specs::Calls::sound))]
 fn intact(s: &Search) -> bool
@@ -145,8 +157,7 @@ fn intact(s: &Search) -> bool
         && all_costs(&s.standing.costs)
         && all_costs(&s.gathered.costs)
         && s.best.cost <= MAX_COST
-        && suits(s.method, s.setup.rule)
-        && sound_companions(s.method, s.phase, &s.setup, &s.standing.points)
+        && fits_method(s)
 }
 
 // Whether refusal 12 lets a search through, as it does each that has ended.
