@@ -1,6 +1,6 @@
 // The verdicts of the later calls: refusal 12, then 8 to 11. Where n ≤ 8 is asked for, `intact` has just tested it: no type holds it of a
 // search that may be made up.
-ghost use Rattle.std.specs.Prelude.{◌≡◌, ◌&&◌, suc, ◌≤◌};
+ghost use Rattle.std.specs.Prelude.{◌≡◌, true, ◌&&◌, suc, ◌≤◌};
 ghost use Rattle.rules.specs.Stop.{suits};
 ghost use Rattle.rules.specs.Calls.{sound_phase, standing_in, ordered_in, in_order, all_costs, sound_rule, sound_counts, every, companion_within, sound_companions, intact, undamaged, ask_verdict, tell_verdict, best_verdict};
 
@@ -131,19 +131,11 @@ fn sound_companions(method: Method, phase: Phase, setup: &Setup, points: &[f64; 
     }
 }
 
-// Whether the rule and the companions fit the method.
-fn fits_method(s: &Search) -> bool
-    requires { s.now.setup.n ≤ 8 }
-    ensures { result ≡ (suits s.now.method s.now.setup.rule && sound_companions s.now.method s.now.phase s.now.setup s.now.standing.points) }
-{
-    suits(s.method, s.setup.rule)
-        && sound_companions(s.method, s.phase, &s.setup, &s.standing.points)
-}
-
-// None of the causes of refusal 12, for a search that has not ended.
+// None of the causes of refusal 12 that do not go by the method, for a search that has not ended.
 #[tactic(auto, unfolding(rules::specs::Calls::sound))]
-fn intact(s: &Search) -> bool
-    ensures { result ≡ intact s.now }
+fn in_bounds(s: &Search) -> bool
+    ensures sounds { intact s.now ≡ (result && suits s.now.method s.now.setup.rule && sound_companions s.now.method s.now.phase s.now.setup s.now.standing.points) }
+    ensures high { result ≡ true → s.now.setup.n ≤ 8 }
 {
     1 <= s.setup.n
         && s.setup.n <= 8
@@ -157,7 +149,15 @@ fn intact(s: &Search) -> bool
         && all_costs(&s.standing.costs)
         && all_costs(&s.gathered.costs)
         && s.best.cost <= MAX_COST
-        && fits_method(s)
+}
+
+// None of the causes of refusal 12, for a search that has not ended.
+fn intact(s: &Search) -> bool
+    ensures { result ≡ intact s.now }
+{
+    in_bounds(s)
+        && suits(s.method, s.setup.rule)
+        && sound_companions(s.method, s.phase, &s.setup, &s.standing.points)
 }
 
 // Whether refusal 12 lets a search through, as it does each that has ended.
