@@ -7,8 +7,8 @@ use mathlib.Core.Logic.{⊎_elim}
 use Prim.Native.Nat.{ℕ, zero, suc, ◌+◌, ◌-◌, ◌*◌, ◌≤◌, ◌<◌}
 use native.Mathlib.Numerals.{add-one}
 use native.Mathlib.Omega.{arith}
-use lib.ListN.{length, take, drop, set, replicate, length-append, length-drop, length-map, drop_of_length-le, get_or, take-append-drop, replicate-append-replicate}
-use lib.Seq.{paste, paste-zero, paste-suc, take_all, take_at, drop_at, take-suc, drop-cons, take-append-le, take-take, length-take-le}
+use lib.ListN.{length, length-set, take, drop, set, replicate, length-append, length-drop, length-map, drop_of_length-le, get_or, take-append-drop, replicate-append-replicate}
+use lib.Seq.{set_at, set-append_left, map-set, take-append-add, drop-append-add, paste, paste-zero, paste-suc, take_all, take_at, drop_at, take-suc, drop-cons, take-append-le, take-take, length-take-le}
 use lib.Ieee.{Float}
 use borrow.Rule.Slice.PartMut.{put_mid, mid_of}
 use Rattle.std.specs.List.{copy_within}
@@ -20,7 +20,7 @@ use Rattle.rules.specs.Calls.{all_costs}
 use Rattle.rules.specs.Simplex.{up_to, blank, cost_of, number_in, flat, store, pack, place, unpack, insert}
 use Rattle.std.proofs.lemmas.Bool.Decides.{nat_tests}
 use Rattle.rules.proofs.Laws.Lists.{length_up_to, get_or_up_to}
-use Rattle.rules.proofs.Laws.Places.{Whole, flat_append, flat_unpack, costs_unpack, numbers_unpack, costs_pack, unpack_pack}
+use Rattle.rules.proofs.Laws.Places.{Whole, whole_padded, flat_append, flat_unpack, costs_unpack, numbers_unpack, costs_pack, unpack_pack}
 use Rattle.rules.proofs.Laws.Order.{insert_after, insert_before, mem_insert}
 use Rattle.engine.specs.Places.{put_at, Clean, Holds}
 
@@ -63,15 +63,20 @@ pack_first s m ps cs ks l k p c d =
     let numbers : ks ≡ map number_in (unpack m s ++ replicate (9 - m) blank) = rw (map-append number_in, numbers_unpack m s k, measure_blank number_in, d) in
     rw (length_unpack m s, points, costs, numbers)
 
+-- what holds of f 0 to f (m − 1) holds of each vertex among them
+pub each_up_to : (P : Vertex → Type 0) (m : ℕ) (f : ℕ → Vertex) → ((i : ℕ) → i < m → P (f i)) → (v : Vertex) → Memᴰ v (up_to f m) → P v
+unfolding up_to
+each_up_to P zero f h v m = absurd (Memᴰ.not-nil m)
+each_up_to P (suc k) f h v m =
+    ⊎_elim
+    (each_up_to P k f (λ i l. h i (omega arith)) v)
+    (λ t. subst⁻¹ P (Memᴰ.eq_of_singleton t) (h k (omega arith)))
+    (Memᴰ.append_cases (up_to f k) m)
+
 -- what holds at each of the first m places holds of each vertex that `unpack` reads there
 each_unpack : (P : Vertex → Type 0) (m : ℕ) (s : Simplex) → ((i : ℕ) → i < m → P (place s i)) → (v : Vertex) → Memᴰ v (unpack m s) → P v
-unfolding unpack up_to
-each_unpack P zero s h v m = absurd (Memᴰ.not-nil m)
-each_unpack P (suc k) s h v m =
-    ⊎_elim
-    (each_unpack P k s (λ i l. h i (omega arith)) v)
-    (λ t. subst⁻¹ P (Memᴰ.eq_of_singleton t) (h k (omega arith)))
-    (Memᴰ.append_cases (unpack k s) m)
+unfolding unpack
+each_unpack P m s h v k = each_up_to P m (place s) h v k
 
 -- the points at the first m of nine places have eight numbers each
 pub whole_unpack : (m : ℕ) (s : Simplex) → length s.points ≡ 72 → m ≤ 9 → Whole (unpack m s)
@@ -128,7 +133,7 @@ length_flat [] h = refl
 length_flat (v ∷ vs) h = simp length-append (omega (arith, h v (Memᴰ.head refl), length_flat vs (λ w m. h w (Memᴰ.tail m))))
 
 -- two lists of vertices, each with a point of eight numbers, make one such list
-whole_append : (vs ws : List Vertex) → Whole vs → Whole ws → Whole (vs ++ ws)
+pub whole_append : (vs ws : List Vertex) → Whole vs → Whole ws → Whole (vs ++ ws)
 whole_append vs ws a b v m = ⊎_elim (a v) (b v) (Memᴰ.append_cases vs m)
 
 module _ (xs ys : List Vertex) (v : Vertex) (i len : ℕ) (h : length xs ≡ i) (k : length xs + length ys ≡ len) (small : len ≤ 8) where
@@ -184,6 +189,44 @@ put_among old new i len v clean long eight l small costs numbers p c d =
     let all : Whole vs = whole_append (take i us) (v ∷ drop i us) front (whole_append (v ∷ []) (drop i us) one back) in
     let m : length vs ≡ len + 1 = simp length-append (omega (arith, length-take-le i us (omega arith), length-drop i us)) in
     record { packed = packed; read = rw packed (subst (λ (k : ℕ). unpack k (pack vs) ≡ vs) m (unpack_pack vs all)) }
+
+-- ---- a vertex put over another, or after all
+
+-- the flat run with the point of v over that of the i-th vertex
+flat_set : (vs : List Vertex) (i : ℕ) (v : Vertex) → Whole vs → length v.point ≡ 8 → i < length vs → paste (flat vs) (8 * i) v.point 8 ≡ flat (set vs i v)
+unfolding flat
+flat_set [] i v h e l = absurd (omega arith)
+flat_set (w ∷ vs) zero v h e l = rw (take_all 8 v.point (omega arith), drop_at w.point (flat vs) 8 (h w (Memᴰ.head refl)))
+flat_set (w ∷ vs) (suc i) v h e l =
+    let long = h w (Memᴰ.head refl) in
+    let front : 8 * suc i ≡ length w.point + 8 * i = omega arith in
+    let back : 8 * suc i + 8 ≡ length w.point + (8 * i + 8) = omega arith in
+    let rest = flat_set vs i v (λ u m. h u (Memᴰ.tail m)) e (omega arith) in
+    rw (back, front, take-append-add w.point, drop-append-add w.point, ← rest) (simp append_assoc)
+
+-- v put at the place of the i-th of stored vertices
+put_store : (vs : List Vertex) (i : ℕ) (v : Vertex) → Whole vs → length v.point ≡ 8 → i < length vs → put_at (store vs) i v ≡ store (set vs i v)
+unfolding store
+put_store vs i v h e l = rw (flat_set vs i v h e l, map-set cost_of, map-set number_in)
+
+-- v put at the place of the i-th of packed vertices
+pub put_over : (vs : List Vertex) (i : ℕ) (v : Vertex) → Whole vs → length v.point ≡ 8 → i < length vs → put_at (pack vs) i v ≡ pack (set vs i v)
+put_over vs i v h e l =
+    let bs = replicate (9 - length vs) blank in
+    let long : i < length (vs ++ bs) = simp length-append (omega arith) in
+    rw (put_store (vs ++ bs) i v (whole_padded vs (9 - length vs) h) e long, length-set, set-append_left vs bs i v l)
+
+-- v put at the first blank place after packed vertices
+pub put_after : (vs : List Vertex) (i : ℕ) (v : Vertex) → Whole vs → length v.point ≡ 8 → i ≡ length vs → i < 9 → put_at (pack vs) i v ≡ pack (vs ++ v ∷ [])
+put_after vs i v h e l k =
+    let more : 9 - length vs ≡ suc (8 - length vs) = omega arith in
+    let one : 9 - length (vs ++ v ∷ []) ≡ 8 - length vs = simp length-append (omega arith) in
+    let bs = replicate (8 - length vs) blank in
+    let long : i < length (vs ++ blank ∷ bs) = simp length-append (omega arith) in
+    let was : put_at (pack vs) i v ≡ put_at (store (vs ++ blank ∷ bs)) i v = rw more in
+    let put = put_store (vs ++ blank ∷ bs) i v (whole_padded vs (suc (8 - length vs)) h) e long in
+    let all : set (vs ++ blank ∷ bs) i v ≡ vs ++ v ∷ bs = set_at vs blank bs v i (omega arith) in
+    was ∙ put ∙ rw (one, all, append_assoc)
 
 -- ---- the newcomer among the places from i on
 
