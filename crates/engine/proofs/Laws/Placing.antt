@@ -98,6 +98,10 @@ rest_more s i len h = rw (add-one, drop-cons (unpack len s) i blank (omega (arit
 pub rest_none : (s : Simplex) (i len : ℕ) → len ≤ i → drop i (unpack len s) ≡ []
 rest_none s i len h = drop_of_length-le (unpack len s) {i = i} (omega (arith, length_unpack len s))
 
+-- the vertices of len places, with v between the first len of them and the others, are these and v after all
+pub after_all : (s : Simplex) (len : ℕ) (v : Vertex) → take len (unpack len s) ++ v ∷ drop len (unpack len s) ≡ unpack len s ++ v ∷ []
+after_all s len v = rw (rest_none s len len (omega arith), take_all len (unpack len s) (omega (arith, length_unpack len s)))
+
 -- ---- a vertex put between others
 
 module _ {A : Type 0} where
@@ -274,3 +278,13 @@ low_inserted s n v h c =
     (λ e. rw e h)
     (each_unpack (λ (x : Vertex). x.cost ≤ max_cost) n s (λ (j : ℕ) k. cost_low s.costs c j) w)
     (mem_insert v (unpack n s) m))
+
+-- and when it is put after them
+pub low_appended : (s : Simplex) (n : ℕ) (v : Vertex) → v.cost ≤ max_cost → all_costs s.costs ≡ true → all_costs (pack (unpack n s ++ v ∷ [])).costs ≡ true
+low_appended s n v h c =
+    costs_pack (unpack n s ++ v ∷ [])
+    (λ w m.
+    ⊎_elim
+    (each_unpack (λ (x : Vertex). x.cost ≤ max_cost) n s (λ (j : ℕ) k. cost_low s.costs c j) w)
+    (λ t. let e : w ≡ v = Memᴰ.eq_of_singleton t in rw e h)
+    (Memᴰ.append_cases (unpack n s) m))
