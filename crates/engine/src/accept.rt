@@ -43,7 +43,7 @@ fn advance(s: &mut Search, next: Phase)
 }
 
 // The search after an accepted reading of this cost.
-#[tactic(auto, using(crate::proofs::Laws::Accepting::gathered_then, crate::proofs::Laws::Accepting::entrant_low), unfolding(rules::specs::Accept::accept, rules::specs::Trial::trial))]
+#[tactic(auto, using(crate::proofs::Laws::Accepting::gathered_then, crate::proofs::Laws::Accepting::entrant_low, crate::proofs::Laws::Accepting::placed), unfolding(rules::specs::Accept::accept, rules::specs::Trial::trial))]
 pub(super) fn accept(s: &mut Search, cost: u64)
     requires { (Ready s.old) × (s.old.readings < max_budget) × (cost ≤ max_cost) }
     ensures { s.new ≡ accept s.old cost }

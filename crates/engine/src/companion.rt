@@ -3,12 +3,12 @@
 ghost use Rattle.std.specs.Prelude.{◌≡◌, [], ◌≤◌, replicate};
 ghost use Rattle.rules.specs.Numbers.{max_cost};
 ghost use Rattle.rules.specs.Simplex.{pack};
-ghost use Rattle.rules.specs.Companions.{unread_at, built, halved, base_after, companion_after, stop_after, group_after, group_read, stops_by};
+ghost use Rattle.rules.specs.Companions.{unread_at, built, halved, base_after, companion_after, stop_after, group_after, stops_by};
 ghost use Rattle.engine.specs.Places.{no_trial};
 ghost use Rattle.engine.specs.Ready.{Ready};
 
 use super::float::moved_from;
-use super::place::{blank, clear, place_at, put};
+use super::place::{blank, place_at, put};
 use super::point::build_step;
 use super::trial;
 use rules::{Change, Phase, Search, Simplex, Trial, Vertex};
@@ -122,6 +122,7 @@ fn group(s: &Search, change: Change, u: &Vertex, places: &mut Simplex, stops: &m
 }
 
 // The base and the companions stand so.
+#[tactic(auto, using(crate::proofs::Laws::Accepting::places, crate::proofs::Laws::Turning::low_after))]
 pub(super) fn regroup(s: &mut Search, change: Change, u: &Vertex)
     requires { (Ready s.old) × (u.now.cost ≤ max_cost) }
     ensures stands { s.new ≡ record s.old { standing = pack (group_after change u.now s.old); stops = stops_by (stop_after change u.now s.old) s.old.setup.n } }
@@ -132,14 +133,4 @@ pub(super) fn regroup(s: &mut Search, change: Change, u: &Vertex)
     group(s, change, u, &mut places, &mut stops);
     s.standing = places;
     s.stops = stops;
-}
-
-// Companion i stands as the reading u.
-pub(super) fn read_at(s: &mut Search, i: usize, u: &Vertex)
-    requires { (Ready s.old) × (1 ≤ i) × (i ≤ s.old.setup.n) × (u.now.cost ≤ max_cost) }
-    ensures stands { s.new ≡ record s.old { standing = pack (group_read i u.now s.old) } }
-    ensures ready { Ready s.new }
-{
-    clear(&mut s.standing, s.setup.n + 1);
-    put(&mut s.standing, i, *u);
 }

@@ -1,6 +1,6 @@
 // One place of a simplex, read from and written to the flat runs of points, costs and numbers. Each function asks that its place is one of the nine:
 // a type for a place would be made of an index and taken apart at once.
-ghost use Rattle.std.specs.Prelude.{◌≡◌, ◌<◌, ◌≤◌, []};
+ghost use Rattle.std.specs.Prelude.{◌≡◌, ◌<◌, ◌≤◌, [], set};
 ghost use Rattle.rules.specs.Simplex.{pack, unpack, place};
 ghost use Rattle.engine.specs.Places.{put_at, Holds};
 
@@ -46,6 +46,15 @@ pub(super) fn clear(s: &mut Simplex, len: usize)
     s.points[8 * len..].fill(0.0);
     s.costs[len..].fill(0);
     s.numbers[len..].fill(0);
+}
+
+// Puts v over the vertex at place i, counted from 0, among the first len; blank places after these.
+pub(super) fn replace(s: &mut Simplex, i: usize, len: usize, v: Vertex)
+    requires { (i < len) × (len ≤ 9) }
+    ensures { Holds len s.new (set (unpack len s.old) i v) }
+{
+    clear(s, len);
+    put(s, i, v);
 }
 
 // A simplex of nine blank places. Written out and not derived: document 01 gives the run of 72 numbers in this form.

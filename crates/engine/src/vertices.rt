@@ -5,9 +5,9 @@ ghost use Rattle.rules.specs.Numbers.{max_cost};
 ghost use Rattle.rules.specs.Accept.{entrant, standing_with, standing_after, stops_after, gathered_with, gathered_after};
 ghost use Rattle.engine.specs.Ready.{Ready, Kept, Placed};
 
-use super::companion::{read_at, regroup};
+use super::companion::regroup;
 use super::insert::{append, insert};
-use super::place::{blank, place_at};
+use super::place::{blank, place_at, replace};
 use super::view::gathered_in;
 use rules::{Decision, Keeping, Newcomer, Search, Vertex};
 
@@ -22,14 +22,14 @@ pub(super) fn entrant(s: &Search, decision: Decision, v: Vertex) -> Vertex
 }
 
 // The standing places where a piece or a probe round goes on: a companion stands as read.
-#[tactic(auto, using(crate::proofs::Laws::Accepting::places))]
+#[tactic(auto, using(crate::proofs::Laws::Accepting::places, crate::proofs::Laws::Turning::reads))]
 fn stand_with(s: &mut Search, keeping: Keeping, u: &Vertex)
     requires { (Ready s.old) × (Kept s.old.setup.n keeping) × (u.now.cost ≤ max_cost) }
     ensures stands { s.new ≡ record s.old { standing = standing_with keeping u.now s.old } }
     ensures ready { Ready s.new }
 {
     match keeping {
-        Keeping::Read(i) => read_at(s, i, u),
+        Keeping::Read(i) => replace(&mut s.standing, i, s.setup.n + 1, *u),
         Keeping::Nothing | Keeping::Joined | Keeping::First | Keeping::Told(_) => {}
     }
 }

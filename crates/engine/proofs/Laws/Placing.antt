@@ -192,7 +192,7 @@ put_among old new i len v clean long eight l small costs numbers p c d =
     let one : Whole (v ∷ []) = λ w m. rw (Memᴰ.eq_of_singleton m) eight in
     let all : Whole vs = whole_append (take i us) (v ∷ drop i us) front (whole_append (v ∷ []) (drop i us) one back) in
     let m : length vs ≡ len + 1 = simp length-append (omega (arith, length-take-le i us (omega arith), length-drop i us)) in
-    record { packed = packed; read = rw packed (subst (λ (k : ℕ). unpack k (pack vs) ≡ vs) m (unpack_pack vs all)) }
+    record { packed = packed; read = rw packed (subst (λ (k : ℕ). unpack k (pack vs) ≡ vs) m (unpack_pack vs all)); whole = all }
 
 -- ---- a vertex put over another, or after all
 
@@ -208,6 +208,12 @@ flat_set (w ∷ vs) (suc i) v h e l =
     let rest = flat_set vs i v (λ u m. h u (Memᴰ.tail m)) e (omega arith) in
     rw (back, front, take-append-add w.point, drop-append-add w.point, ← rest) (simp append_assoc)
 
+-- vertices with v over the i-th
+whole_set : (vs : List Vertex) (i : ℕ) (v : Vertex) → Whole vs → length v.point ≡ 8 → Whole (set vs i v)
+whole_set [] i v h e u m = h u m
+whole_set (w ∷ vs) zero v h e u m = ⊎_elim (λ d. let same : u ≡ v = d in rw same e) (λ t. h u (Memᴰ.tail t)) (Memᴰ.cases_cons m)
+whole_set (w ∷ vs) (suc i) v h e u m = ⊎_elim (λ d. h u (Memᴰ.head d)) (λ t. whole_set vs i v (λ x k. h x (Memᴰ.tail k)) e u t) (Memᴰ.cases_cons m)
+
 -- v put at the place of the i-th of stored vertices
 put_store : (vs : List Vertex) (i : ℕ) (v : Vertex) → Whole vs → length v.point ≡ 8 → i < length vs → put_at (store vs) i v ≡ store (set vs i v)
 unfolding store
@@ -219,6 +225,17 @@ put_over vs i v h e l =
     let bs = replicate (9 - length vs) blank in
     let long : i < length (vs ++ bs) = simp length-append (omega arith) in
     rw (put_store (vs ++ bs) i v (whole_padded vs (9 - length vs) h) e long, length-set, set-append_left vs bs i v l)
+
+-- where w holds the first len vertices of s, v put at place i is one of them
+pub replaced_at : (s w : Simplex) (i len : ℕ) (v : Vertex) → Holds len w (unpack len s) → i < len → length v.point ≡ 8 → Holds len (put_at w i v) (set (unpack len s) i v)
+replaced_at s w i len v h l e =
+    let us = unpack len s in
+    let n : length us ≡ len = length_unpack len s in
+    let vs = set us i v in
+    let packed : put_at w i v ≡ pack vs = ap (λ (t : Simplex). put_at t i v) h.packed ∙ put_over us i v h.whole e (omega (arith, n)) in
+    let all : Whole vs = whole_set us i v h.whole e in
+    let k : length vs ≡ len = length-set us i v ∙ n in
+    record { packed = packed; read = rw packed (subst (λ (j : ℕ). unpack j (pack vs) ≡ vs) k (unpack_pack vs all)); whole = all }
 
 -- v put at the first blank place after packed vertices
 pub put_after : (vs : List Vertex) (i : ℕ) (v : Vertex) → Whole vs → length v.point ≡ 8 → i ≡ length vs → i < 9 → put_at (pack vs) i v ≡ pack (vs ++ v ∷ [])

@@ -121,15 +121,9 @@ module _ (s : Search) (i : ℕ) (u : Vertex) (low : 1 ≤ i) (high : i ≤ s.set
       let same : length (set vs i u) ≡ length (group_read i u s) = omega (arith, many, length_up_to (λ k. cond (eqb (suc k) i) u (place s.standing (suc k))) n) in
       ext_get_or blank (set vs i u) (group_read i u s) same (λ k l. read_at k (omega (arith, many)))
 
--- where w holds the first n + 1 places, the reading u put there at place i is companion i
-pub read_put : (s : Search) (i : ℕ) (u : Vertex) (w : Simplex) → Holds (s.setup.n + 1) w (unpack (s.setup.n + 1) s.standing) → 1 ≤ i → i ≤ s.setup.n → s.setup.n ≤ 8
-    → length s.standing.points ≡ 72 → length u.point ≡ 8 → put_at w i u ≡ pack (group_read i u s)
-read_put s i u w h low high few long eight =
-    let vs = unpack (s.setup.n + 1) s.standing in
-    let m = length_unpack (s.setup.n + 1) s.standing in
-    ap (λ (t : Simplex). put_at t i u) h.packed
-    ∙ put_over vs i u (whole_unpack (s.setup.n + 1) s.standing long (omega arith)) eight (omega (arith, m))
-    ∙ ap pack (read_set s i u low high)
+-- where w holds them it holds the base and its companions with companion i read
+pub read_then : (s : Search) (i : ℕ) (u : Vertex) (w : Simplex) → Holds (s.setup.n + 1) w (set (unpack (s.setup.n + 1) s.standing) i u) → (1 ≤ i) × (i ≤ s.setup.n) → w ≡ pack (group_read i u s)
+read_then s i u w h k = h.packed ∙ ap pack (read_set s i u k.0 k.1)
 
 -- ---- the costs in range
 
@@ -171,3 +165,10 @@ module _ (s : Search) (u : Vertex) (ready : Ready s) (low : u.cost ≤ max_cost)
   low_read i =
       low_group (base s) (λ (k : ℕ). cond (eqb k i) u (place s.standing k)) s.setup.n (stood 0)
       (λ k. cond_both (eqb k i) u (place s.standing k) (λ v. v.cost ≤ max_cost) (λ _. low) (λ _. stood k))
+
+  -- so w has, which holds the companions with one of them read
+  pub low_then : (i : ℕ) (w : Simplex) → Holds (s.setup.n + 1) w (set (unpack (s.setup.n + 1) s.standing) i u) → (1 ≤ i) × (i ≤ s.setup.n) → all_costs w.costs ≡ true
+  low_then i w h k = rw (read_then s i u w h k) (low_read i)
+
+-- what the places take where a companion is read
+pub ruleset reads = (read_then, low_then)

@@ -1,6 +1,6 @@
 -- `engine::place::clear` meets its contract: zeros stand where a blank place does. Assumes nothing.
 use Rattle.std.proofs.Common.{arith, rules, ◌≡◌, ◌*◌, length}
-use Rattle.engine.proofs.Laws.Placing.{filled, pack_first, unpack_first}
+use Rattle.engine.proofs.Laws.Placing.{filled, pack_first, whole_unpack, unpack_first}
 use Rattle.engine.proofs.place.clear.Goals as goal
 
 pub returns : goal.returns
@@ -15,4 +15,4 @@ returns c =
     (filled (8 * m) 72 s.points _ _ (omega arith) long (c.fill.ensures.after (λ y e. e)))
     (filled m 9 s.costs _ 0 (omega arith) costs (c.fill-2.ensures.after (λ y e. e)))
     (filled m 9 s.numbers _ 0 (omega arith) numbers (c.fill-3.ensures.after (λ y e. e))) in
-    record { packed = packed; read = rw packed (unpack_first s m long (omega arith)) }
+    record { packed = packed; read = rw packed (unpack_first s m long (omega arith)); whole = whole_unpack m s long (omega arith) }
