@@ -9,7 +9,7 @@ use Rattle.rules.specs.declared.Phase.TheVariants.{Mirroring, Checking}
 use Rattle.rules.specs.declared.Keeping.{Keeping}
 use Rattle.rules.specs.declared.Keeping.TheVariants.{Told, Read}
 use Rattle.rules.specs.declared.Decision.{Decision}
-use Rattle.rules.specs.declared.Decision.TheVariants.{Go, Take, Stand, Restart, Regroup}
+use Rattle.rules.specs.declared.Decision.TheVariants.{Go}
 
 -- the companion that a phase reflects or asks; 0 where it has none
 abbrev pub companion_in : Phase → ℕ

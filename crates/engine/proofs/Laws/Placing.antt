@@ -63,20 +63,15 @@ pack_first s m ps cs ks l k p c d =
     let numbers : ks ≡ map number_in (unpack m s ++ replicate (9 - m) blank) = rw (map-append number_in, numbers_unpack m s k, measure_blank number_in, d) in
     rw (length_unpack m s, points, costs, numbers)
 
--- what holds of f 0 to f (m − 1) holds of each vertex among them
-pub each_up_to : (P : Vertex → Type 0) (m : ℕ) (f : ℕ → Vertex) → ((i : ℕ) → i < m → P (f i)) → (v : Vertex) → Memᴰ v (up_to f m) → P v
-unfolding up_to
-each_up_to P zero f h v m = absurd (Memᴰ.not-nil m)
-each_up_to P (suc k) f h v m =
-    ⊎_elim
-    (each_up_to P k f (λ i l. h i (omega arith)) v)
-    (λ t. subst⁻¹ P (Memᴰ.eq_of_singleton t) (h k (omega arith)))
-    (Memᴰ.append_cases (up_to f k) m)
-
 -- what holds at each of the first m places holds of each vertex that `unpack` reads there
 each_unpack : (P : Vertex → Type 0) (m : ℕ) (s : Simplex) → ((i : ℕ) → i < m → P (place s i)) → (v : Vertex) → Memᴰ v (unpack m s) → P v
-unfolding unpack
-each_unpack P m s h v k = each_up_to P m (place s) h v k
+unfolding unpack up_to
+each_unpack P zero s h v m = absurd (Memᴰ.not-nil m)
+each_unpack P (suc k) s h v m =
+    ⊎_elim
+    (each_unpack P k s (λ i l. h i (omega arith)) v)
+    (λ t. subst⁻¹ P (Memᴰ.eq_of_singleton t) (h k (omega arith)))
+    (Memᴰ.append_cases (unpack k s) m)
 
 -- the points at the first m of nine places have eight numbers each
 pub whole_unpack : (m : ℕ) (s : Simplex) → length s.points ≡ 72 → m ≤ 9 → Whole (unpack m s)

@@ -2,13 +2,12 @@
 use mathlib.Core.Path.{◌≡◌, refl, sym, ap, ◌∙◌, subst}
 use Rattle.std.specs.Prelude.{◌≢◌}
 use mathlib.Core.List.Memᴰ
-use mathlib.Core.List.{List, [], ◌∷◌, ◌++◌, append_assoc, Memᴰ}
+use mathlib.Core.List.{List, [], ◌∷◌, ◌++◌}
 use mathlib.Core.Bool.{true, cond}
-use mathlib.Core.Logic.{⊎_elim}
 use Prim.Native.Nat.{ℕ, zero, suc, ◌+◌, ◌-◌, ◌≤◌, ◌<◌}
 use native.Mathlib.Numerals.{add-one}
 use native.Mathlib.Omega.{arith}
-use lib.ListN.{length, length-append, length-set, get_or, set, replicate}
+use lib.ListN.{length, length-set, get_or, set, replicate}
 use lib.Seq.{set_at, append_snoc, get_or-set_other}
 use lib.Dec.{eqb, ltb}
 use Rattle.std.proofs.lemmas.Bool.{cond_both}
@@ -26,9 +25,10 @@ use Rattle.rules.specs.declared.Change.{Change}
 use Rattle.rules.specs.declared.Change.TheVariants.{Built, Mirrored, Swapped, Halved}
 use Rattle.rules.proofs.Laws.Lists.{length_up_to, get_or_up_to}
 use Rattle.rules.proofs.Laws.Places.{Whole, costs_pack}
+use Rattle.rules.proofs.Laws.Grouping.{length_group, get_or_group, mem_group}
 use Rattle.engine.specs.Places.{put_at, Holds}
 use Rattle.engine.specs.Ready.{Ready}
-use Rattle.engine.proofs.Laws.Placing.{length_unpack, whole_unpack, each_up_to, put_over, put_after, whole_append, cost_low}
+use Rattle.engine.proofs.Laws.Placing.{length_unpack, put_after, whole_append, cost_low}
 
 -- ---- the next unread companion
 
@@ -61,10 +61,6 @@ pub ruleset nexts = (next_past, next_here, next_none)
 -- ---- a base and companions, put into places one after the other
 
 module _ (b : Vertex) (f : ℕ → Vertex) (k : ℕ) where
-  -- a base with k companions are k + 1 vertices
-  length_group : length (group b f k) ≡ k + 1
-  length_group = omega (arith, length_up_to (λ j. f (suc j)) k)
-
   -- one companion more stands after them
   group_more : group b f (k + 1) ≡ group b f k ++ f (k + 1) ∷ []
   unfolding up_to
@@ -75,7 +71,7 @@ module _ (b : Vertex) (f : ℕ → Vertex) (k : ℕ) where
       → put_at s (k + 1) v ≡ pack (group b f (k + 1))
   group_put s v h w e l m =
       let more : group b f k ++ v ∷ [] ≡ group b f (k + 1) = ap (λ (u : Vertex). group b f k ++ u ∷ []) e ∙ sym group_more in
-      ap (λ (t : Simplex). put_at t (k + 1) v) h ∙ put_after (group b f k) (k + 1) v w l (sym length_group) (omega arith) ∙ ap pack more
+      ap (λ (t : Simplex). put_at t (k + 1) v) h ∙ put_after (group b f k) (k + 1) v w l (sym (length_group b f k)) (omega arith) ∙ ap pack more
 
   -- and so each has a point of eight numbers
   pub group_whole : (v : Vertex) → Whole (group b f k) → v ≡ f (k + 1) → length v.point ≡ 8 → Whole (group b f (k + 1))
@@ -110,7 +106,7 @@ module _ (s : Search) (i : ℕ) (u : Vertex) (low : 1 ≤ i) (high : i ≤ s.set
       cond_both (eqb (suc k) i) u (place s.standing (suc k)) (λ x. get_or (set vs i u) (suc k) blank ≡ x)
       (λ e. there (grind (arith, nat_tests)))
       (λ e. else (grind (arith, nat_tests))) in
-      here ∙ sym (get_or_up_to (λ j. f (suc j)) k s.setup.n blank (omega arith))
+      here ∙ sym (get_or_group (base s) f s.setup.n (suc k) (omega arith) (omega arith))
 
   -- and so in all
   read_set : set (unpack (s.setup.n + 1) s.standing) i u ≡ group_read i u s
@@ -118,7 +114,7 @@ module _ (s : Search) (i : ℕ) (u : Vertex) (low : 1 ≤ i) (high : i ≤ s.set
       let n = s.setup.n in
       let vs = unpack (n + 1) s.standing in
       let many : length (set vs i u) ≡ n + 1 = length-set vs i u ∙ length_unpack (n + 1) s.standing in
-      let same : length (set vs i u) ≡ length (group_read i u s) = omega (arith, many, length_up_to (λ k. cond (eqb (suc k) i) u (place s.standing (suc k))) n) in
+      let same : length (set vs i u) ≡ length (group_read i u s) = many ∙ sym (length_group (base s) (λ (k : ℕ). cond (eqb k i) u (place s.standing k)) n) in
       ext_get_or blank (set vs i u) (group_read i u s) same (λ k l. read_at k (omega (arith, many)))
 
 -- where w holds them it holds the base and its companions with companion i read
@@ -130,8 +126,7 @@ read_then s i u w h k = h.packed ∙ ap pack (read_set s i u k.0 k.1)
 -- a base and companions of costs in range have places of costs in range
 low_group : (b : Vertex) (f : ℕ → Vertex) (n : ℕ) → b.cost ≤ max_cost → ((i : ℕ) → (f i).cost ≤ max_cost) → all_costs (pack (group b f n)).costs ≡ true
 low_group b f n h k =
-    costs_pack (group b f n)
-    (λ v m. ⊎_elim (λ e. rw e h) (λ t. each_up_to (λ (x : Vertex). x.cost ≤ max_cost) n (λ i. f (suc i)) (λ i l. k (suc i)) v t) (Memᴰ.cases_cons m))
+    costs_pack (group b f n) (mem_group (λ (v : Vertex). v.cost ≤ max_cost) b f n h (λ i _ _. k i))
 
 module _ (s : Search) (u : Vertex) (ready : Ready s) (low : u.cost ≤ max_cost) where
   -- the vertex at a place has a cost in range

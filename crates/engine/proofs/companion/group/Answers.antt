@@ -1,6 +1,5 @@
 -- `engine::companion::group` meets its contract, by what its loop keeps. Assumes nothing.
-use Rattle.std.proofs.Common.{◌≡◌, ◌∙◌, refl, sym, ap, ℕ, ◌<◌, length, [], ◌∷◌, arith, rules}
-use mathlib.Core.List.{Memᴰ}
+use Rattle.std.proofs.Common.{◌≡◌, ◌∙◌, refl, sym, ap, ◌<◌, length, [], ◌∷◌, arith, rules}
 use mathlib.Core.List.Memᴰ
 use Rattle.rules.specs.Simplex.{up_to, pack}
 use Rattle.rules.specs.Companions.{base_after, companion_after, stop_after}

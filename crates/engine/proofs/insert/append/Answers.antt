@@ -1,6 +1,5 @@
 -- `engine::insert::append` meets its contract: the places before it are cleared of what follows them. Assumes nothing.
-use Rattle.std.proofs.Common.{◌≡◌, ◌++◌, ◌∷◌, [], ◌+◌, List, ap, ◌∙◌, subst}
-use Rattle.rules.specs.Simplex.{unpack}
+use Rattle.std.proofs.Common.{◌++◌, ◌∷◌, [], ◌+◌, List, ap, ◌∙◌, subst}
 use Rattle.rules.specs.declared.Vertex.{Vertex}
 use Rattle.engine.specs.Places.{Holds}
 use Rattle.engine.proofs.Laws.Placing.{after_all}
