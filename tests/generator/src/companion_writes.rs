@@ -96,9 +96,14 @@ fn coordinates(state: &State, axis: u64) -> impl Iterator<Item = f64> + '_ {
     (2..=state.n().min(8) + 1).map(move |place| f64::from_bits(state.standing_point(place)[at]))
 }
 
-/// An axis, and the least and the greatest coordinate that companions have on it.
+/// An axis, most often a ring where there is one, and the least and the greatest coordinate that companions have on it.
 fn reach(random: &mut Random, state: &State) -> (u64, f64, f64) {
-    let axis = random.between(1, state.n().clamp(1, 8));
+    let n = state.n().clamp(1, 8);
+    let rings: Vec<u64> = (1..=n).filter(|axis| state.ring(*axis) == 1).collect();
+    let axis = match rings.is_empty() || random.one_in(3) {
+        true => random.between(1, n),
+        false => random.pick(&rings),
+    };
     let least = coordinates(state, axis).fold(f64::INFINITY, f64::min);
     let most = coordinates(state, axis).fold(f64::NEG_INFINITY, f64::max);
     (axis, least, most)

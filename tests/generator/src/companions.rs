@@ -19,18 +19,33 @@ const HI: u64 = 10;
 /// One episode of a search of this method.
 pub fn episode(script: &mut Script, random: &mut Random, costs: &mut Costs) {
     match random.below(16) {
-        0..=4 => {
-            let line = writes::at_an_edge(random, &script.state());
-            parts::written(script, random, costs, line);
-        }
+        0..=4 => at_an_edge(script, random, costs),
         5..=7 => going_on(script, random, costs),
         8 => within(script, random, costs),
         9 => episodes::at_a_threshold(script, random),
         10 | 11 => under_nelder_mead(script, random, costs),
         12 => with_nelder_mead(script, random, costs),
         13 => scattered(script, random, costs),
-        14 => spent_on_a_base(script, random),
+        14 if random.one_in(2) => spent_on_a_base(script, random),
+        14 => base_anywhere(script, random, costs),
         _ => halved_outside(script, random),
+    }
+}
+
+/// A line at an edge, at times where the base has no number: it is no companion, read or unread.
+fn at_an_edge(script: &mut Script, random: &mut Random, costs: &mut Costs) {
+    let before = script.state();
+    let unread = random.one_in(4);
+    if unread {
+        script.write([11, 1, 0]);
+    }
+    let line = match unread && random.one_in(3) {
+        true => [4, 11, 0],
+        false => writes::at_an_edge(random, &script.state()),
+    };
+    parts::written(script, random, costs, line);
+    if unread && random.one_in(2) {
+        script.write(before.undoing([11, 1, 0]));
     }
 }
 
@@ -268,6 +283,29 @@ fn spent_on_a_base(script: &mut Script, random: &mut Random) {
         script.write([4, 10, random.between(1, before.n())]);
         script.ask();
     }
+}
+
+/// A base asked again, with limits anywhere, also past the companions that stand, which are not looked at then.
+fn base_anywhere(script: &mut Script, random: &mut Random, costs: &mut Costs) {
+    if !script.goes_on() {
+        return;
+    }
+    let before = script.state();
+    script.write([4, 9, 0]);
+    let bound = match script.habit.rings && random.one_in(2) {
+        true => ring_writes::bound,
+        false => limits::bound,
+    };
+    bound(script, random);
+    script.ask();
+    script.best();
+    if random.one_in(4) {
+        script.write([4, 10, random.between(1, before.n())]);
+        script.ask();
+        script.write([4, 9, 0]);
+    }
+    tells(script, random, costs, 2 * before.n() + 3);
+    put_back(script, &before);
 }
 
 /// Limits that hold the companions and not the base, so that halvings and reflections towards it are clamped.
