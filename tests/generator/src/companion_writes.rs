@@ -64,7 +64,7 @@ fn number(random: &mut Random, state: &State) -> u64 {
     let n = state.n();
     let huge = random.pick(&HUGE);
     let beyond = n.wrapping_add(1);
-    random.pick(&[0, 0, 1, 1, n, n, beyond, beyond, huge])
+    random.pick(&[0, 0, 0, 1, n, n, beyond, beyond, beyond, huge])
 }
 
 fn reflection(random: &mut Random, state: &State) -> Written {

@@ -18,17 +18,24 @@ const HI: u64 = 10;
 
 /// One episode of a search of this method.
 pub fn episode(script: &mut Script, random: &mut Random, costs: &mut Costs) {
-    match random.below(16) {
-        0..=4 => at_an_edge(script, random, costs),
-        5..=7 => going_on(script, random, costs),
-        8 => within(script, random, costs),
-        9 => episodes::at_a_threshold(script, random),
-        10 | 11 => under_nelder_mead(script, random, costs),
-        12 => with_nelder_mead(script, random, costs),
-        13 => scattered(script, random, costs),
-        14 if random.one_in(2) => spent_on_a_base(script, random),
-        14 => base_anywhere(script, random, costs),
+    match random.below(20) {
+        0..=7 => at_edges(script, random, costs),
+        8..=10 => going_on(script, random, costs),
+        11 | 12 => within(script, random, costs),
+        13 => episodes::at_a_threshold(script, random),
+        14 | 15 => under_nelder_mead(script, random, costs),
+        16 => with_nelder_mead(script, random, costs),
+        17 => scattered(script, random, costs),
+        18 if random.one_in(2) => spent_on_a_base(script, random),
+        18 => base_anywhere(script, random, costs),
         _ => halved_outside(script, random),
+    }
+}
+
+/// One or two lines at an edge, one after the other.
+fn at_edges(script: &mut Script, random: &mut Random, costs: &mut Costs) {
+    for _ in 0..random.between(1, 2) {
+        at_an_edge(script, random, costs);
     }
 }
 
