@@ -21,6 +21,7 @@ use Rattle.rules.specs.Claims.{IsBest, Claims}
 use Rattle.rules.specs.declared.Axis.{Axis}
 use Rattle.rules.specs.declared.Asked.{Asked}
 use Rattle.rules.specs.declared.Vertex.{Vertex}
+use Rattle.rules.specs.declared.Method.TheVariants.{NelderMead}
 use Rattle.rules.specs.declared.Rule.TheVariants.{Spread}
 use Rattle.rules.specs.declared.Search.{Search}
 use Rattle.rules.specs.declared.Refusal.{Refusal}
@@ -177,13 +178,13 @@ module _ (p : Progress) (c : Carried p) where
   -- the rules' claim holds of the search that is carried
   pub claimed : Claims begun told_so_far p.search
   claimed =
-      rw c.made (claim p.request.n p.request.axes (Some (Spread p.request.spread)) usual p.request.budget c.accepted c.calls)
+      rw c.made (claim NelderMead p.request.n p.request.axes (Some (Spread p.request.spread)) usual p.request.budget c.accepted c.calls)
 
   -- the search that is carried is not damaged
   sound : undamaged p.search ≡ true
   sound =
       rw c.made
-      (sound_always p.request.n p.request.axes (Some (Spread p.request.spread)) usual p.request.budget c.accepted c.calls)
+      (sound_always NelderMead p.request.n p.request.axes (Some (Spread p.request.spread)) usual p.request.budget c.accepted c.calls)
 
   -- a cost line is refused only as 9, for a cost above the largest
   pub only_too_high : is_ended p.search.phase ≡ false
