@@ -68,7 +68,7 @@ fn unread(x: Trial) -> Made
     Made { vertex, stops }
 }
 
-// Companion i after a change.
+// Companion i after a change: made anew, the reflection that was told for it, the old base where it is the lower one, or as it stood.
 fn companion(s: &Search, change: Change, u: &Vertex, i: usize) -> Made
     requires { (Ready s.now) × (1 ≤ i) × (i ≤ s.now.setup.n) }
     ensures vertex { result.vertex ≡ companion_after change u.now s.now i }
@@ -121,7 +121,7 @@ fn group(s: &Search, change: Change, u: &Vertex, places: &mut Simplex, stops: &m
     }
 }
 
-// The base and the companions stand so.
+// The base and the companions stand as after the change, with the stops of these. A function of its own, since its places are a whole simplex.
 #[tactic(auto, using(crate::proofs::Laws::Accepting::places, crate::proofs::Laws::Turning::low_after))]
 pub(super) fn regroup(s: &mut Search, change: Change, u: &Vertex)
     requires { (Ready s.old) × (u.now.cost ≤ max_cost) }

@@ -1,5 +1,5 @@
-// A newcomer among the places, after all of equal cost, or after all: the recursion of document 01, on one vertex fewer at each call. That len ≤ 8, asked
-// for in each contract, leaves it a place; a Simplex does not carry how many vertices it has.
+// A newcomer among the places, after all of equal cost, or after all: the recursion of document 01, on one vertex fewer at each call. That
+// len ≤ 8, asked for in each contract, leaves it a place; a Simplex does not carry how many vertices it has.
 ghost use Rattle.std.specs.Prelude.{[], ◌++◌, ◌∷◌, ◌+◌, ◌≤◌, take, drop};
 ghost use Rattle.rules.specs.Simplex.{unpack, insert};
 ghost use Rattle.engine.specs.Places.{Clean, Holds};
