@@ -195,8 +195,9 @@ as_nm s = record s { method = NelderMead }
 -- such points by the rules
 unfoldable pub centers_given : List (List ℕ)
 centers_given =
-    -- as opened; after the base; after a swap and a halving
+    -- as opened; after the base; after a lower reflection, a lower companion and a halving
     center_bits (at round round_costs 0) ∷ center_bits (at round round_costs 1) ∷ center_bits (after_costs (begun round) (40 ∷ 30 ∷ []))
+    ∷ center_bits (after_costs (begun round) (40 ∷ 41 ∷ 42 ∷ 30 ∷ []))
     ∷ center_bits (at round round_costs 5)
     -- after a probe that is not lower; after a lower one; after a swap then
     ∷ center_bits (at round round_costs 7) ∷ center_bits (at round round_costs 8) ∷ center_bits (at round round_costs 9)
@@ -208,7 +209,8 @@ centers_given =
 -- what the documents say of each, in this order
 unfoldable pub centers_stated : List (List ℕ)
 centers_stated =
-    (0x3fb9_9999_9999_999a ∷ 0xbfd3_3333_3333_3333 ∷ replicate 6 0) ∷ (0x3fb9_9999_9999_999a ∷ 0xbfd3_3333_3333_3333 ∷ replicate 6 0)
+    (0x3fb9_9999_9999_999a ∷ 0xbfd3_3333_3333_3333 ∷ replicate 6 0)
+    ∷ (0x3fb9_9999_9999_999a ∷ 0xbfd3_3333_3333_3333 ∷ replicate 6 0) ∷ (0x3fb9_9999_9999_999a ∷ 0xbfd3_3333_3333_3333 ∷ replicate 6 0)
     ∷ (0x3fb9_9999_9999_999a ∷ 0xbfd3_3333_3333_3333 ∷ replicate 6 0) ∷ (0x3fb9_9999_9999_999a ∷ 0xbfd3_3333_3333_3333 ∷ replicate 6 0)
     ∷ (0x3fb9_9999_9999_999a ∷ 0xbfd3_3333_3333_3333 ∷ replicate 6 0) ∷ (0x3fb9_9999_9999_999a ∷ 0xbfd3_2199_9999_9999 ∷ replicate 6 0)
     ∷ (0x3fb9_9999_9999_999a ∷ 0xbfd3_2199_9999_9999 ∷ replicate 6 0)
@@ -315,10 +317,9 @@ turn_causes_given =
     -- a read companion too: companion 1, which was the base; the base, at −0.5, is not looked at
     ∷ by_ask (held (limits 0xbfdf_ffff_ffff_ffff 0x3fd3_3333_3333_3333) at_large 4)
     ∷ by_ask (held (limits 0xbfdf_ffff_ffff_ffff 0x3fd3_3333_3333_3332) at_large 4)
-    -- companion 3 of two axes is not looked at, and is of three
-    ∷ by_ask (with_n 2 (with_limits at_large (limits 0xbfd3_3333_3333_3333 0x3fe9_9999_9999_999a) past (at trio trio_costs 6)))
-    ∷ by_ask (with_limits at_large (limits 0xbfd3_3333_3333_3333 0x3fe9_9999_9999_999a) (limits 0x3fe6_6666_6666_6666 0x3fe6_6666_6666_6666)
-    (at trio trio_costs 6))
+    -- companion 2, at 0.1, is not looked at where n is 1, and is where n is 2
+    ∷ by_ask (with_n 1 (with_limits (limits 0x3fe0_0000_0000_0000 0x4020_0000_0000_0000) at_large past (at trio trio_costs 1)))
+    ∷ by_ask (with_n 2 (with_limits (limits 0x3fe0_0000_0000_0000 0x4020_0000_0000_0000) at_large past (at trio trio_costs 1)))
     -- in every phase but that of the base; not in an ended search, which ask refuses with 8
     ∷ by_ask (with_phase (Checking 1) (held above_lo at_large 1)) ∷ by_ask (with_phase (Probing 0) (held above_lo at_large 1))
     ∷ by_ask (with_phase Reflecting (held above_lo at_large 1)) ∷ by_ask (with_phase (Building 1) (held above_lo at_large 1))
@@ -409,6 +410,8 @@ turn_strays_given =
     ∷ told_to (with_phase (Checking 1) (with_numbers (1 ∷ 0 ∷ 5 ∷ 0 ∷ 6 ∷ []) (with_junk (at trio trio_costs 1)))) 90
     ∷ told_to (with_phase (Mirroring 3) (with_numbers (1 ∷ 5 ∷ 6 ∷ 0 ∷ []) (with_junk (at trio trio_costs 1)))) 90
     ∷ told_to (with_phase (Mirroring 3) (with_numbers (0 ∷ 5 ∷ 6 ∷ 7 ∷ 0 ∷ []) (with_junk (at trio trio_costs 1)))) 90
+    -- the base, at −0.5, lies below lo, 0, and is not looked at: the companions are halved to it, and clamped
+    ∷ told_to (with_phase (Checking 2) (held (limits 0 0x4020_0000_0000_0000) at_large 4)) 50
     -- the base is another vertex than the best: a reading is held against the base, and a probe against the best
     ∷ told_to (with_best 5 (at pinched pinched_costs 1)) 40 ∷ told_to (with_phase (Probing 0) (with_best 5 (at pinched pinched_costs 1))) 40
     ∷ told_to (with_phase (Probing 3) (with_best 50 (at pinched pinched_costs 1))) 48
@@ -445,6 +448,8 @@ turn_strays_stated =
     ∷ (0 ∷ 0 ∷ 2 ∷ replicate 6 0) ∷ (2 ∷ 0 ∷ 1 ∷ 0 ∷ 7 ∷ 90 ∷ 1 ∷ []) ∷ [])
     ∷ ((10 ∷ 1 ∷ []) ∷ (90 ∷ replicate 8 0) ∷ (replicate 9 0) ∷ (replicate 9 0) ∷ (replicate 9 0) ∷ (replicate 9 0)
     ∷ (2 ∷ 1 ∷ 1 ∷ 0 ∷ 0 ∷ 90 ∷ 1 ∷ []) ∷ [])
+    ∷ ((10 ∷ 1 ∷ []) ∷ (40 ∷ replicate 8 0) ∷ (4 ∷ replicate 8 0) ∷ (0 ∷ 1 ∷ 1 ∷ replicate 6 0) ∷ (replicate 9 0) ∷ (replicate 9 0)
+    ∷ (5 ∷ 2 ∷ 4 ∷ 0 ∷ 0 ∷ 40 ∷ 4 ∷ []) ∷ [])
     ∷ ((10 ∷ 1 ∷ []) ∷ (40 ∷ 47 ∷ replicate 7 0) ∷ (2 ∷ 1 ∷ replicate 7 0) ∷ (0 ∷ 0 ∷ 1 ∷ replicate 6 0) ∷ (replicate 9 0) ∷ (replicate 9 0)
     ∷ (2 ∷ 1 ∷ 1 ∷ 0 ∷ 0 ∷ 5 ∷ 1 ∷ []) ∷ [])
     ∷ ((6 ∷ 1 ∷ []) ∷ (47 ∷ replicate 8 0) ∷ (1 ∷ replicate 8 0) ∷ (0 ∷ 0 ∷ 1 ∷ replicate 6 0) ∷ (replicate 9 0) ∷ (replicate 9 0)
@@ -452,6 +457,18 @@ turn_strays_stated =
     ∷ ((10 ∷ 1 ∷ []) ∷ (48 ∷ replicate 8 0) ∷ (2 ∷ replicate 8 0) ∷ (replicate 9 0) ∷ (replicate 9 0) ∷ (replicate 9 0)
     ∷ (2 ∷ 0 ∷ 0 ∷ 1 ∷ 0 ∷ 48 ∷ 2 ∷ []) ∷ [])
     ∷ []
+
+-- the stops at the nine places after a reading of cost c, by the rules
+unfoldable pub turn_stops_given : List (List ℕ)
+turn_stops_given =
+    -- no reading of Nelder-Mead changes them: r that goes on to e, r that is taken, the end of a build
+    (accept (with_junk built_search) 5).stops ∷ (accept (with_junk built_search) 15).stops
+    ∷ (accept (with_phase (Building 2) (with_junk built_search)) 40).stops
+    ∷ []
+
+-- what docs/REPLAY.md says of each
+unfoldable pub turn_stops_stated : List (List ℕ)
+turn_stops_stated = (replicate 9 5) ∷ (replicate 9 5) ∷ (replicate 9 5) ∷ []
 
 -- the phase of the search s after a reading of cost c
 abbrev pub leads : Search → ℕ → List ℕ
