@@ -4,7 +4,7 @@ use Rattle.std.specs.Prelude.{List, [], ◌∷◌, ◌++◌, map, ℕ, length, t
 use Rattle.std.specs.Float.{binary64, nan}
 use Rattle.std.specs.Float.Ieee.{to_bits}
 use Rattle.rules.specs.Numbers.{usual}
-use Rattle.rules.specs.Accept.{accept}
+use Rattle.rules.specs.Accept.{accept, gathered_of}
 use Rattle.rules.specs.Refusals.{Verdict}
 use Rattle.rules.specs.Opening.{zero_axis, open_verdict}
 use Rattle.rules.specs.Calls.{standing_of, tell_verdict, best_verdict, asking}
@@ -28,7 +28,7 @@ use Rattle.rules.specs.declared.Coefficients.{Coefficients}
 use Rattle.rules.specs.declared.Opening.{Opening}
 use Rattle.rules.specs.declared.Rule.{Rule}
 use Rattle.rules.specs.declared.Rule.TheVariants.{Spread, Moved, Size}
-use Rattle.rules.specs.declared.Piece.TheVariants.{Build, Reflection, Pattern}
+use Rattle.rules.specs.declared.Piece.TheVariants.{Build, Reflection, Shrink, Pattern}
 use Rattle.rules.specs.declared.Phase.{Phase}
 use Rattle.rules.specs.declared.Phase.TheVariants.{Building, Reflecting, Expanding, Contracting, Shrinking, Basing, Mirroring, Checking, Probing, Ended}
 use Rattle.rules.specs.declared.Side.TheVariants.{Outside, Inside}
@@ -218,12 +218,16 @@ centers_stated =
     ∷ (0x3fb9_9999_9999_999a ∷ 0xbfd3_2199_9999_9999 ∷ replicate 6 0)
     ∷ []
 
--- the tally of the history that these costs are: finished iterations, builds and reflections; readings in iterations; probe readings; open ones
+-- the tally of the history that these costs are, told to the search s: finished iterations, builds, reflections and shrinks; readings in iterations;
+-- probe readings; open ones
+abbrev pub tally_of : Search → List ℕ → List ℕ
+tally_of s cs =
+    let h = map told cs in
+    made Pattern s h ∷ made Build s h ∷ made Reflection s h ∷ made Shrink s h ∷ directed_in s h ∷ probes_in s h ∷ open_in 0 s h ∷ []
+
+-- that of the first k costs of a worked search
 abbrev pub turn_tallied : Opening → List ℕ → ℕ → List ℕ
-turn_tallied o cs k =
-    let s = begun o in
-    let h = map told (take k cs) in
-    made Pattern s h ∷ made Build s h ∷ made Reflection s h ∷ directed_in s h ∷ probes_in s h ∷ open_in 0 s h ∷ []
+turn_tallied o cs k = tally_of (begun o) (take k cs)
 
 -- tallies by the rules
 unfoldable pub turn_tallies_given : List (List ℕ)
@@ -231,14 +235,19 @@ turn_tallies_given =
     turn_tallied trio trio_costs 1 ∷ turn_tallied trio trio_costs 4 ∷ turn_tallied trio trio_costs 6 ∷ turn_tallied trio trio_costs 15
     ∷ turn_tallied trio trio_costs 20
     ∷ turn_tallied trio trio_costs 21 ∷ turn_tallied round round_costs 6 ∷ turn_tallied round round_costs 8 ∷ turn_tallied round round_costs 20
+    -- of three companions the second is read: the first ends no iteration; the last two are read: it does, and so does reflection 3 where all are
+    ∷ tally_of (with_phase (Checking 1) (with_numbers (1 ∷ 0 ∷ 5 ∷ 0 ∷ []) (at trio trio_costs 1))) (90 ∷ [])
+    ∷ tally_of (with_phase (Checking 1) (with_numbers (1 ∷ 0 ∷ 5 ∷ 6 ∷ []) (at trio trio_costs 1))) (90 ∷ [])
+    ∷ tally_of (with_phase (Mirroring 3) (with_numbers (0 ∷ 5 ∷ 6 ∷ 7 ∷ []) (at trio trio_costs 1))) (90 ∷ [])
     ∷ []
 
 -- what the documents say of each, in this order
 unfoldable pub turn_tallies_stated : List (List ℕ)
 turn_tallies_stated =
-    (0 ∷ 0 ∷ 0 ∷ 0 ∷ 0 ∷ 0 ∷ []) ∷ (0 ∷ 0 ∷ 0 ∷ 3 ∷ 0 ∷ 0 ∷ []) ∷ (1 ∷ 0 ∷ 0 ∷ 5 ∷ 0 ∷ 0 ∷ [])
-    ∷ (5 ∷ 0 ∷ 0 ∷ 14 ∷ 0 ∷ 0 ∷ []) ∷ (5 ∷ 0 ∷ 0 ∷ 19 ∷ 0 ∷ 0 ∷ []) ∷ (6 ∷ 0 ∷ 0 ∷ 20 ∷ 0 ∷ 0 ∷ [])
-    ∷ (1 ∷ 0 ∷ 0 ∷ 4 ∷ 1 ∷ 0 ∷ []) ∷ (1 ∷ 0 ∷ 0 ∷ 4 ∷ 3 ∷ 0 ∷ []) ∷ (4 ∷ 0 ∷ 0 ∷ 12 ∷ 7 ∷ 0 ∷ [])
+    (0 ∷ 0 ∷ 0 ∷ 0 ∷ 0 ∷ 0 ∷ 0 ∷ []) ∷ (0 ∷ 0 ∷ 0 ∷ 0 ∷ 3 ∷ 0 ∷ 0 ∷ []) ∷ (1 ∷ 0 ∷ 0 ∷ 0 ∷ 5 ∷ 0 ∷ 0 ∷ [])
+    ∷ (5 ∷ 0 ∷ 0 ∷ 0 ∷ 14 ∷ 0 ∷ 0 ∷ []) ∷ (5 ∷ 0 ∷ 0 ∷ 0 ∷ 19 ∷ 0 ∷ 0 ∷ []) ∷ (6 ∷ 0 ∷ 0 ∷ 0 ∷ 20 ∷ 0 ∷ 0 ∷ [])
+    ∷ (1 ∷ 0 ∷ 0 ∷ 0 ∷ 4 ∷ 1 ∷ 0 ∷ []) ∷ (1 ∷ 0 ∷ 0 ∷ 0 ∷ 4 ∷ 3 ∷ 0 ∷ []) ∷ (4 ∷ 0 ∷ 0 ∷ 0 ∷ 12 ∷ 7 ∷ 0 ∷ [])
+    ∷ (0 ∷ 0 ∷ 0 ∷ 0 ∷ 1 ∷ 0 ∷ 0 ∷ []) ∷ (1 ∷ 0 ∷ 0 ∷ 0 ∷ 1 ∷ 0 ∷ 0 ∷ []) ∷ (1 ∷ 0 ∷ 0 ∷ 0 ∷ 1 ∷ 0 ∷ 0 ∷ [])
     ∷ []
 
 -- the verdict on two good axes in the method m with this rule, or none
@@ -506,8 +515,9 @@ turn_asks_given =
     -- with Nelder-Mead a companion outside the limits is clamped when it is asked, and its stops are those that stand at its place
     ∷ answer (asking (as_nm (with_phase (Checking 1) (with_standing [] (held above_lo at_large 1)))))
     ∷ answer (asking (as_nm (with_phase (Checking 1) (with_standing [] (with_junk (held above_lo at_large 1))))))
-    -- vertices stand with Nelder-Mead alone
-    ∷ (length (standing_of (pinched_at 1)) ∷ length (standing_of (as_nm (pinched_at 1))) ∷ [])
+    -- vertices stand with Nelder-Mead alone, and the reflections that are told count as gathered in neither
+    ∷ (length (standing_of (pinched_at 3)) ∷ length (standing_of (as_nm (pinched_at 3))) ∷ length (gathered_of (pinched_at 3))
+    ∷ length (gathered_of (as_nm (pinched_at 3))) ∷ [])
     ∷ []
 
 -- what the documents say of each, in this order
@@ -518,5 +528,5 @@ turn_asks_stated =
     ∷ (7 ∷ 0x3fd3_3333_3333_3333 ∷ 0xbfec_efed_cc22_af58 ∷ replicate 6 0 ++ 1 ∷ [])
     ∷ (2 ∷ 0xbfdf_ffff_ffff_ffff ∷ 0x3fd2_6e16_458a_af56 ∷ replicate 7 0)
     ∷ (2 ∷ 0xbfdf_ffff_ffff_ffff ∷ 0x3fd2_6e16_458a_af56 ∷ replicate 6 0 ++ 5 ∷ [])
-    ∷ (0 ∷ 3 ∷ [])
+    ∷ (0 ∷ 3 ∷ 0 ∷ 0 ∷ [])
     ∷ []
