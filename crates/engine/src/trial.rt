@@ -2,7 +2,7 @@
 // Each coordinate is brought into its axis, and counted where the clamp changes it. The loops write the trial in place, since one given back by each
 // would be copied.
 ghost use Rattle.std.specs.Prelude.{◌≡◌, cond, ◌+◌, ◌≤◌, ◌<◌, set};
-ghost use Rattle.rules.specs.Trial.{brought_in, at_stop, centroid, toward_reflected, toward_worst, target, made, trial_in};
+ghost use Rattle.rules.specs.Trial.{brought_in, at_stop, centroid, toward_reflected, toward_worst, mirrored, target, made, trial_in};
 ghost use Rattle.rules.specs.declared.Phase.TheVariants.{Building, Reflecting, Shrinking, Mirroring, Checking, Probing};
 ghost use Rattle.engine.specs.Places.{no_trial};
 ghost use Rattle.engine.specs.Ready.{Askable};
@@ -110,6 +110,14 @@ fn shrunk(s: &Search, j: usize, out: &mut Trial)
     }
 }
 
+// Coordinate a of the reflection of companion i through the base, before it is brought into its axis.
+fn through_base(points: &[f64; 72], i: usize, a: usize) -> f64
+    requires { (i ≤ 8) × (a < 8) }
+    ensures { result ≡ mirrored points.now i a }
+{
+    points[a] + (points[a] - points[8 * i + a])
+}
+
 // The reflection of companion i through the base.
 #[tactic(auto, using(crate::proofs::Laws::Filling::trials), unfolding(rules::specs::Simplex::up_to, rules::specs::Trial::stops_to))]
 fn mirrored(s: &Search, i: usize, out: &mut Trial)
@@ -119,8 +127,7 @@ fn mirrored(s: &Search, i: usize, out: &mut Trial)
     let n = s.setup.n;
     let points = &s.standing.points;
     for a in 0..n {
-        let v = points[a] + (points[a] - points[8 * i + a]);
-        put(out, &s.setup.axes[a], a, v);
+        put(out, &s.setup.axes[a], a, through_base(points, i, a));
     }
 }
 
