@@ -330,7 +330,11 @@ module _ (m : Method) (n : ℕ) (axes : List Axis) (rule : Option Rule) (coeffic
   pub panel_frame : (cs : List Call) (v : Vertex) → Shown cs v → Frame cs v
   panel_frame cs v s = ⊎_elim (λ m. frame cs v ((claims cs).vertices v m)) (⊎_elim (λ m. frame cs v ((claims cs).gathered v m)) (λ e. frame cs v (shown_read cs v e))) s
 
-  -- so does a companion of the multidirectional search that has been read
+  -- so does the base of the multidirectional search
+  pub panel_base : (cs : List Call) → m ≡ Multidirectional → 0 < length (accepted_costs cs) → Frame cs (place (reached cs).standing 0)
+  panel_base cs md l = frame cs (place (reached cs).standing 0) (((claims cs).multidirectional (method_given ∙ md)).base_now l).read
+
+  -- and each of its companions that has been read
   pub panel_companion : (cs : List Call) → m ≡ Multidirectional → 0 < length (accepted_costs cs) → (i : ℕ) → 1 ≤ i → i ≤ n
       → let c = place (reached cs).standing i in (c.number ≡ 0 → ⊥) → Frame cs c
   unfolding fresh

@@ -8,7 +8,7 @@ use native.Mathlib.Omega.{arith}
 use lib.ListN.{length, take}
 use lib.Ieee.{Float}
 use Rattle.rules.specs.Opening.{opening}
-use Rattle.rules.specs.Simplex.{place, cost_of, number_in}
+use Rattle.rules.specs.Simplex.{blank, place, cost_of, number_in}
 use Rattle.rules.specs.Trial.{target, trial}
 use Rattle.rules.specs.Calls.{standing_of, asking}
 use Rattle.rules.specs.History.{Event, told, Call, after, run, costs_in, history}
@@ -30,9 +30,9 @@ use Rattle.rules.specs.declared.Cause.TheVariants.{Settled}
 use Rattle.rules.proofs.Laws.Openings.{opened_verdict, opened_fresh, opened_suits, opened_sane}
 use Rattle.rules.proofs.Laws.Histories.{Joined, readings_of}
 use Rattle.rules.proofs.Steps.Grouped.{Directed, AtCheck, MultiOf}
-use Rattle.rules.proofs.Steps.Turning.{none_stands, companion_at}
-use Rattle.rules.proofs.Runs.Companions.{companion_inside, companion_stops}
-use Rattle.rules.proofs.Runs.Begun.{Begun, fresh_begun, whole_run, run_inv, run_multi, is_read, are_read, run_readings, run_counts, run_probes, run_directed, run_unfinished, run_standing, run_places, run_vertices, run_gathered, run_read}
+use Rattle.rules.proofs.Steps.Turning.{none_stands, base_at, companion_at}
+use Rattle.rules.proofs.Runs.Companions.{companion_inside, companion_stops, past_companions}
+use Rattle.rules.proofs.Runs.Begun.{Begun, fresh_begun, whole_run, run_inv, run_multi, is_read, are_read, run_best, run_readings, run_counts, run_probes, run_directed, run_unfinished, run_standing, run_places, run_vertices, run_gathered, run_read}
 use Rattle.rules.proofs.Runs.Moments.{run_first, run_base, made_since, falls_since, run_settled_only, run_settled_when, run_spent, run_within, run_within_told, run_inside, run_stops}
 use Rattle.rules.proofs.Runs.Calling.{telling_joins, asking_answers, asked_trial, showing_best, all_follow}
 
@@ -78,6 +78,7 @@ module _ (o : Search) (begun : Begun o) where
           all_read = run_read o begun h t nm;
           first = first_of h t;
           equation = equation_of h t;
+          none_directed = ((run_inv o begun h t nm).undirected.patterns, (run_inv o begun h t nm).undirected.directed);
           bound_after_build = bound_of Build h t;
           bound_after_shrink = bound_of Shrink h t;
           stops_asked = λ a e. stops_lem h t a e (λ i now. rw now at (run_inv o begun h t nm).phase);
@@ -114,6 +115,14 @@ module _ (o : Search) (begun : Begun o) where
                 (companion_inside (readings_of o h) (run o h) inv some (run_inside o begun h t) i low m),
           )
 
+      -- the base is the best, once it is told
+      base_by : 0 < length (costs_in h) → IsBest o h (place (run o h).standing 0)
+      base_by l = let some = some_told l in subst (λ (v : Vertex). IsBest o h v) (sym (base_at inv.noted some (inv.grouped some))) (run_best o begun h t l)
+
+      -- no place past the companions holds a vertex
+      past_by : (i : ℕ) → o.setup.n < i → i < 9 → place (run o h).standing i ≡ blank
+      past_by i l m = past_companions (readings_of o h) (run o h) inv i (omega (arith, same_n)) m
+
       -- the bound, and the equation that it comes from
       counted_by_method : Directed o.setup.n (run o h).readings (run o h).counts
       counted_by_method = subst (λ (n : ℕ). Directed n (run o h).readings (run o h).counts) same_n inv.counts
@@ -137,6 +146,8 @@ module _ (o : Search) (begun : Begun o) where
             none_counts = inv.counts.none;
             none_open = inv.counts.none_open;
             base = base_of h t;
+            base_now = base_by;
+            none_past = past_by;
             none_before = λ e. inv.blank (run_readings o begun h t ∙ e);
             companions = companion_of;
             reflections = are_read o begun h t inv.gs (run o h).gathered inv.gathers.are inv.gathers.known;

@@ -98,13 +98,19 @@ abbrev pub Renews : Decision → Vertex → Search → ℕ → (ℕ → Float) �
 Renews (Regroup change) v s i f = Makes change v s i f
 Renews _ v s i f = ⊥
 
--- a cost of the history h made companion i of the numbers f
+-- the cost c, told to s, leaves companion i as it was made: it is not the one that is read, and is not made anew
+pub record Untouched (s : Search) (c i : ℕ) : Type 0 where
+  pub not_read : s.phase ≡ Checking i → ⊥
+  pub not_made : (f : ℕ → Float) → Renews (decided s.phase s c) (reading_of s c) s i f → ⊥
+
+-- a cost of the history h made companion i of the numbers f, and those since have left it so
 pub record MadeAt (o : Search) (h : List Event) (i : ℕ) (f : ℕ → Float) : Type 0 where
   pub before : List Event
   pub cost : ℕ
   pub since : List Event
   pub splits : h ≡ before ++ told cost ∷ since
   pub renews : let s = run o before in Renews (decided s.phase s cost) (reading_of s cost) s i f
+  pub untouched : (p : List Event) (c : ℕ) (q : List Event) → since ≡ p ++ told c ∷ q → Untouched (run o (before ++ told cost ∷ p)) c i
 
 -- what holds of Nelder-Mead. o: the search as opened; h: the history; s: the search that the last call returned
 pub record OfNelderMead (o : Search) (h : List Event) (s : Search) : Type 0 where
@@ -119,6 +125,8 @@ pub record OfNelderMead (o : Search) (h : List Event) (s : Search) : Type 0 wher
       → let till = before ++ e ∷ [] in (v : Vertex) × IsBest o till v × (take 1 (standing_of (run o till)) ≡ v ∷ [])
   -- "The equation's numbers are those that the search carries"
   pub equation : 0 < length (costs_in h) → s.readings ≡ readings_by o.setup.n s.counts
+  -- no multidirectional iteration counts
+  pub none_directed : (s.counts.patterns ≡ 0) × (s.counts.directed ≡ 0)
   -- the bound by S
   pub bound_after_build : BoundAfter Build o h
   pub bound_after_shrink : BoundAfter Shrink o h
@@ -134,10 +142,13 @@ pub record OfMultidirectional (o : Search) (h : List Event) (s : Search) : Type 
   -- base: "the base is that reading at the end of every iteration", the earliest least of the readings till then, with its number
   pub base : (before : List Event) (e : Event) (since : List Event) → h ≡ before ++ e ∷ since → Ends o before e
       → let till = before ++ e ∷ [] in (v : Vertex) × IsBest o till v × (place (run o till).standing 0 ≡ v)
+  -- it is at any other time too, once it is told
+  pub base_now : 0 < length (costs_in h) → IsBest o h (place s.standing 0)
   -- companions: none stands before the base is told; then each is unread, or the accepted reading of its number, and lies within the limits;
   -- so with each reflection that the running iteration was told
   pub none_before : length (costs_in h) ≡ 0 → s.standing ≡ pack []
   pub companions : 0 < length (costs_in h) → (i : ℕ) → 1 ≤ i → i ≤ o.setup.n → let c = place s.standing i in (((c.number ≡ 0) × (c.cost ≡ 0)) ⊎ IsRead o h c) × Within o.setup c.point
+  pub none_past : (i : ℕ) → o.setup.n < i → i < 9 → place s.standing i ≡ blank
   pub reflections : AreRead o h s.gathered
   -- "readings are at most 1 + 2n·(finished iterations + 1) + probes"
   pub bound : s.readings ≤ 1 + 2 * o.setup.n * (s.counts.patterns + 1) + s.counts.probes

@@ -90,6 +90,10 @@ place_padded vs i h l = place_store (vs ++ replicate (9 - length vs) blank) i (w
 pub place_pack : (vs : List Vertex) (i : ℕ) → Whole vs → i < length vs → place (pack vs) i ≡ get_or vs i blank
 place_pack vs i h l = place_padded vs i h (grind (arith, places))
 
+-- any place past them is blank
+pub place_past : (vs : List Vertex) (i : ℕ) → Whole vs → length vs ≤ i → i < 9 → place (pack vs) i ≡ blank
+place_past vs i h l m = place_padded vs i h (grind (arith, places)) ∙ grind (arith, places)
+
 -- and each of the nine places is one of the vertices or blank
 pub place_cases : (vs : List Vertex) (i : ℕ) → Whole vs → i < 9 → (place (pack vs) i ≡ blank) ⊎ Memᴰ (place (pack vs) i) vs
 place_cases vs i h l =

@@ -1,15 +1,19 @@
 -- The companions of a multidirectional search that an opening and calls have made: their limits and their stops. Assumes nothing.
 use mathlib.Core.Path.{◌≡◌, sym, ap, ◌∙◌, subst}
-use mathlib.Core.List.{List, Memᴰ}
-use mathlib.Core.Logic.{⊎_elim}
-use Prim.Native.Nat.{ℕ, ◌≤◌, ◌<◌}
+use mathlib.Core.List.Memᴰ
+use mathlib.Core.List.{List, [], Memᴰ}
+use mathlib.Core.Logic.{◌⊎◌, inl, inr, ⊎_elim}
+use Prim.Native.Nat.{ℕ, zero, suc, ◌≤◌, ◌<◌}
 use native.Mathlib.Omega.{arith}
 use lib.ListN.{get_or}
 use lib.Ieee.{Float, nan}
-use Rattle.rules.specs.Simplex.{place, number_in}
+use Rattle.std.proofs.lemmas.Bool.{cases_lt}
+use Rattle.rules.specs.Simplex.{blank, place, number_in}
 use Rattle.rules.specs.Trial.{axis, brought, entry, made, trial}
+use Rattle.rules.specs.Companions.{group}
 use Rattle.rules.specs.Claims.{Within, StopsOf}
 use Rattle.rules.specs.declared.Vertex.{Vertex}
+use Rattle.rules.specs.declared.Simplex.{Simplex}
 use Rattle.rules.specs.declared.Trial.{Trial}
 use Rattle.rules.specs.declared.Setup.{Setup}
 use Rattle.rules.specs.declared.Search.{Search}
@@ -18,9 +22,10 @@ use Rattle.rules.proofs.Laws.Lists.{get_or_point, point_same}
 use Rattle.rules.proofs.Laws.Axes.{brought_within, brought_again}
 use Rattle.rules.proofs.Laws.Stopped.{stops_of}
 use Rattle.rules.proofs.Laws.Openings.{Sane}
-use Rattle.rules.proofs.Laws.Grouping.{entry_at}
+use Rattle.rules.proofs.Laws.Grouping.{length_group, entry_at}
+use Rattle.rules.proofs.Laws.Places.{place_past}
 use Rattle.rules.proofs.Steps.Grouped.{Unread, AtCheck, MultiOf}
-use Rattle.rules.proofs.Steps.Turning.{companion_at}
+use Rattle.rules.proofs.Steps.Turning.{whole_all, companion_at}
 
 -- the readings lie within the limits
 abbrev pub Inside : Setup → List Vertex → Type 0
@@ -63,3 +68,13 @@ module _ {Q : ℕ → (ℕ → Float) → Type 0} (rs : List Vertex) (s : Search
       ap (λ (v : Float). brought t a v) at ∙ brought_again (axis t a) (f a) (inv.noted.sane.limits a l) in
       let points = point_same t.n (λ a. brought t a (entry s.standing.points a i)) (λ a. brought t a (f a)) same in
       (f, unread.origin, rw now (subst (λ (x : Trial). StopsOf t f x) (λ j. record { point = sym points j; stops = sym unread.count j }) (stops_of t f inv.noted.sane.limits)))
+
+-- the places past the companions are blank
+pub past_companions : {Q : ℕ → (ℕ → Float) → Type 0} (rs : List Vertex) (s : Search) → MultiOf Q rs s → (i : ℕ) → s.setup.n < i → i < 9 → place s.standing i ≡ blank
+past_companions rs s inv i l m =
+    ⊎_elim
+    (λ some.
+    let g = inv.grouped some in
+    ap (λ (x : Simplex). place x i) g.are ∙ place_past (group s.best g.f s.setup.n) i (whole_all inv.noted some g) (omega (arith, length_group s.best g.f s.setup.n)) m)
+    (λ e. ap (λ (x : Simplex). place x i) (inv.blank (omega arith)) ∙ place_past [] i (λ v q. absurd (Memᴰ.not-nil q)) (omega arith) m)
+    (cases_lt 0 s.readings)

@@ -1,6 +1,6 @@
 -- The rules over a whole history: the invariant, the counts and the falling sum. Assumes nothing.
 use Rattle.std.specs.Prelude.{Option}
-use mathlib.Core.Path.{◌≡◌, refl, ap, ◌∙◌}
+use mathlib.Core.Path.{◌≡◌, refl, ap, ◌∙◌, subst}
 use mathlib.Core.Bool.{true}
 use mathlib.Core.Logic.{◌⊎◌, inl, inr, ⊎_elim}
 use lib.Ieee.{Float}
@@ -13,7 +13,7 @@ use Rattle.rules.specs.Stop.{suits}
 use Rattle.rules.specs.Opening.{rule_of, fresh}
 use Rattle.rules.specs.Accept.{accept}
 use Rattle.rules.specs.History.{Event, told, step, run}
-use Rattle.rules.specs.Claims.{MadeAt}
+use Rattle.rules.specs.Claims.{Untouched, MadeAt}
 use Rattle.rules.specs.Tally.{finishes, pieces, count_of, probe_by, probes_in, direct_by, directed_in, open_in}
 use Rattle.rules.specs.declared.Rule.{Rule}
 use Rattle.rules.specs.declared.Method.{Method}
@@ -32,7 +32,7 @@ use Rattle.rules.proofs.Steps.Invariant.{Noted, Gathers, Inv}
 use Rattle.rules.proofs.Steps.Grouped.{NoneYet, MultiOf, AnyOf, Any, any_more}
 use Rattle.rules.proofs.Steps.Counting.{Counted, count_by}
 use Rattle.rules.proofs.Steps.Stepping.{BelowBudget, TakesReading, others_in, standing_costs}
-use Rattle.rules.proofs.Steps.Accepting.{NewBy, event_step_of, event_step}
+use Rattle.rules.proofs.Steps.Accepting.{NewBy, LeftBy, event_step_of, event_step}
 
 -- ---- counts of one list of pieces after another
 
@@ -95,33 +95,56 @@ ran rs s inv below (e ∷ h) t =
 
 -- ---- the companions
 
--- the numbers of which the costs of h make companion i
+-- the costs of h leave companion i as it was made
+unfoldable pub Stays : Search → List Event → ℕ → Type 0
+Stays s [] i = Unit {0}
+Stays s (e ∷ h) i = LeftBy s e i × Stays (step s e) h i
+
+-- the numbers of which a cost of h makes companion i, so that it stays to the end
 unfoldable pub MadeBy : Search → List Event → ℕ → (ℕ → Float) → Type 0
 MadeBy s [] i f = ⊥
-MadeBy s (e ∷ h) i f = NewBy s e i f ⊎ MadeBy (step s e) h i f
+MadeBy s (e ∷ h) i f = (NewBy s e i f × Stays (step s e) h i) ⊎ MadeBy (step s e) h i f
 
--- after h those that are unread are made of such numbers, or of those that Q tells
+-- after h those that are unread are made of such numbers, or have stayed as Q tells
 pub ran_made : (Q : ℕ → (ℕ → Float) → Type 0) (rs : List Vertex) (s : Search) → AnyOf Q rs s → BelowBudget s → (h : List Event) → Joined s h
-    → AnyOf (λ i f. Q i f ⊎ MadeBy s h i f) (rs ++ readings_of s h) (run s h)
-unfolding run readings_of Joined MadeBy
-ran_made Q rs s any below [] t = rw append-nil (any_more rs s (λ i f q. inl q) any)
+    → AnyOf (λ i f. (Q i f × Stays s h i) ⊎ MadeBy s h i f) (rs ++ readings_of s h) (run s h)
+unfolding run readings_of Joined MadeBy Stays
+ran_made Q rs s any below [] t = rw append-nil (any_more rs s (λ i f q. inl (q, tt)) any)
 ran_made Q rs s any below (e ∷ h) t =
     let g = event_step_of Q rs s any below e t.0 in
-    let r = ran_made (λ i f. Q i f ⊎ NewBy s e i f) (rs ++ read_by s e) (step s e) g.inv g.below h t.1 in
+    let r = ran_made (λ i f. (Q i f × LeftBy s e i) ⊎ NewBy s e i f) (rs ++ read_by s e) (step s e) g.inv g.below h t.1 in
     rw append_assoc at
-    (any_more {P = λ i f. Q i f ⊎ MadeBy s (e ∷ h) i f} ((rs ++ read_by s e) ++ readings_of (step s e) h) (run (step s e) h)
-    (λ i f. ⊎_elim (λ q. ⊎_elim (λ a. inl a) (λ b. inr (inl b)) q) (λ m. inr (inr m))) r)
+    (any_more {P = λ i f. (Q i f × Stays s (e ∷ h) i) ⊎ MadeBy s (e ∷ h) i f} ((rs ++ read_by s e) ++ readings_of (step s e) h) (run (step s e) h)
+    (λ i f. ⊎_elim (λ q. ⊎_elim (λ a. inl (a.0, (a.1, q.1))) (λ b. inr (inl (b, q.1))) q.0) (λ m. inr (inr m))) r)
 
--- they name the cost that did so
+-- what stays is touched by no cost
+stays_at : (s : Search) (h : List Event) (i : ℕ) → Stays s h i → (p : List Event) (c : ℕ) (q : List Event) → h ≡ p ++ told c ∷ q → Untouched (run s p) c i
+unfolding Stays run
+stays_at s [] i m [] c q e = absurd cc
+stays_at s [] i m (d ∷ p) c q e = absurd cc
+stays_at s (told b ∷ h) i m [] c q e = let same : b ≡ c = cc in subst (λ (k : ℕ). Untouched s k i) same m.0
+stays_at s (told b ∷ h) i m (told d ∷ p) c q e =
+    let same : b ≡ d = cc in
+    let rest : h ≡ p ++ told c ∷ q = cc in
+    subst (λ (k : ℕ). Untouched (run (accept s k) p) c i) same (stays_at (accept s b) h i m.1 p c q rest)
+
+-- a companion that is made so names its cost
 pub made_at : (s : Search) (h : List Event) (i : ℕ) (f : ℕ → Float) → MadeBy s h i f → MadeAt s h i f
 unfolding MadeBy run
 made_at s [] i f m = absurd m
 made_at s (told c ∷ h) i f m =
     ⊎_elim
-    (λ r. record { before = []; cost = c; since = h; splits = refl; renews = r })
+    (λ r. record { before = []; cost = c; since = h; splits = refl; renews = r.0; untouched = stays_at (accept s c) h i r.1 })
     (λ n.
     let r = made_at (accept s c) h i f n in
-    record { before = told c ∷ r.before; cost = r.cost; since = r.since; splits = ap (λ (l : List Event). told c ∷ l) r.splits; renews = r.renews })
+    record {
+      before = told c ∷ r.before;
+      cost = r.cost;
+      since = r.since;
+      splits = ap (λ (l : List Event). told c ∷ l) r.splits;
+      renews = r.renews;
+      untouched = r.untouched;
+    })
     m
 
 -- ---- from the opening on

@@ -8,7 +8,7 @@ use native.Mathlib.Omega.{arith}
 use Rattle.rules.specs.Numbers.{max_cost}
 use Rattle.rules.specs.View.{is_ended, is_probe, is_directed}
 use lib.Ieee.{Float}
-use Rattle.rules.specs.Claims.{Renews}
+use Rattle.rules.specs.Claims.{Renews, Untouched}
 use Rattle.rules.specs.Trial.{brought, target, trial}
 use Rattle.rules.specs.Decide.{decided}
 use Rattle.rules.specs.Accept.{reading_of, accept}
@@ -22,7 +22,7 @@ use Rattle.rules.proofs.Laws.Lists.{length_point, point_again}
 use Rattle.rules.proofs.Laws.Finishing.{pieces_by, ended_decided, probe_viewed, direct_viewed}
 use Rattle.rules.proofs.Laws.Histories.{read_by, Joins}
 use Rattle.rules.proofs.Steps.Invariant.{ReadingShape, Noted, At, Inv}
-use Rattle.rules.proofs.Steps.Grouped.{Whichever, AnyOf, Any, any_more}
+use Rattle.rules.proofs.Steps.Grouped.{Whichever, AnyOf, Any, any_more, multi_more}
 use Rattle.rules.proofs.Steps.Noting.{◌▹◌, NotedWith, note}
 use Rattle.rules.proofs.Steps.Stepping.{BelowBudget, TakesReading, takes_more, Goes}
 use Rattle.rules.proofs.Steps.Gathering.{build_step, shrink_step}
@@ -63,10 +63,14 @@ noted_of rs s any = ⊎_elim (λ i. i.noted) (λ i. i.noted) any
 abbrev pub NewBy : Search → Event → ℕ → (ℕ → Float) → Type 0
 NewBy s (told c) i f = Renews (decided s.phase s c) (reading_of s c) s i f
 
+-- whether it leaves companion i as it was made
+abbrev pub LeftBy : Search → Event → ℕ → Type 0
+LeftBy s (told c) i = Untouched s c i
+
 module _ (Q : ℕ → (ℕ → Float) → Type 0) (rs : List Vertex) (s : Search) (any : AnyOf Q rs s) (below : BelowBudget s) where
   -- the numbers of which companions may be made after it
   abbrev pub Later : Event → ℕ → (ℕ → Float) → Type 0
-  Later e i f = Q i f ⊎ NewBy s e i f
+  Later e i f = (Q i f × LeftBy s e i) ⊎ NewBy s e i f
 
   -- an accepted cost takes its reading
   accept_step : (c : ℕ) → is_ended s.phase ≡ false → c ≤ max_cost
@@ -81,7 +85,9 @@ module _ (Q : ℕ → (ℕ → Float) → Type 0) (rs : List Vertex) (s : Search
       rw (ended_decided s.phase s c, probe_viewed s.phase, direct_viewed s.phase)
       (⊎_elim
       (λ inv. takes_more (rs ▹ v) (pieces_by d) (is_probe s.phase) (is_directed s.phase) s u (λ i. inl i) (advance rs v s inv after live s.phase refl inv.phase))
-      (λ inv. takes_more (rs ▹ v) (pieces_by d) (is_probe s.phase) (is_directed s.phase) s u (λ i. inr i) (turn_step Q rs v s inv after live s.phase refl inv.phase))
+      (λ inv. takes_more (rs ▹ v) (pieces_by d) (is_probe s.phase) (is_directed s.phase) s u
+      (λ i. inr (multi_more (rs ▹ v) u (λ k f. ⊎_elim (λ q. inl (q.0, record { not_read = q.1.0; not_made = q.1.1 })) (λ r. inr r)) i))
+      (turn_step Q rs v s inv after live s.phase refl inv.phase))
       any)
 
   -- an event of the history takes its readings

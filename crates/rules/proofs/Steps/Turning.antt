@@ -116,7 +116,7 @@ module _ {Q : ℕ → (ℕ → Float) → Type 0} {rs : List Vertex} {t : Setup}
   abbrev all : List Vertex
   all = group b g.f t.n
 
-  whole_all : Whole all
+  pub whole_all : Whole all
   whole_all =
       whole_group b g.f t.n
       ((noted.shapes b (best_mem rs b (noted.least some))).eight)
@@ -132,9 +132,13 @@ module _ {Q : ℕ → (ℕ → Float) → Type 0} {rs : List Vertex} {t : Setup}
       ap (λ (x : Simplex). place x i) g.are ∙ place_pack all i whole_all (omega (arith, length_group b g.f t.n)) ∙ get_or_group b g.f t.n i l h
 
 module _ (Q : ℕ → (ℕ → Float) → Type 0) (rs : List Vertex) (v : Vertex) (s : Search) (inv : MultiOf Q rs s) (after : NotedWith v rs s) (live : is_ended s.phase ≡ false) where
-  -- the numbers of which companions may be made then: those of before, and those that the decision makes them of
+  -- companion i is not the one that is read, and the decision d does not make it anew
+  abbrev Left : Decision → ℕ → Type 0
+  Left d i = (s.phase ≡ Checking i → ⊥) × ((f : ℕ → Float) → Renews d v s i f → ⊥)
+
+  -- the numbers of which companions may be made then: those of before, where they are left so, and those that the decision makes them of
   abbrev Then : Decision → ℕ → (ℕ → Float) → Type 0
-  Then d i f = Q i f ⊎ Renews d v s i f
+  Then d i f = (Q i f × Left d i) ⊎ Renews d v s i f
 
   -- the reading v is taken as the decision d says
   abbrev pub Takes : Decision → Type 0
@@ -318,9 +322,9 @@ module _ (Q : ℕ → (ℕ → Float) → Type 0) (rs : List Vertex) (v : Vertex
         rw stays (record { f = g.f; are = g.are; each = λ i l h. companion_more rs s.setup (g.f i) v (get_or s.stops i 0) (more i) (g.each i l h) })
 
     -- with companion i read
-    stand_read : {P : ℕ → (ℕ → Float) → Type 0} → ((i : ℕ) (f : ℕ → Float) → Q i f → P i f) → (i : ℕ)
+    stand_read : {P : ℕ → (ℕ → Float) → Type 0} → (i : ℕ) → ((k : ℕ) (f : ℕ → Float) → (i ≡ k → ⊥) → Q k f → P k f)
         → Grouped P (rs ▹ v) s.setup (best_after s.readings v s.best) s.stops (pack (group_read i v s))
-    stand_read {P} more i =
+    stand_read {P} i more =
         let g = inv.grouped some in
         let first = base_at inv.noted some g in
         let f : ℕ → Vertex = λ k. cond (eqb k i) v (place s.standing k) in
@@ -330,7 +334,7 @@ module _ (Q : ℕ → (ℕ → Float) → Type 0) (rs : List Vertex) (v : Vertex
         (λ e. inl (known_new rs v))
         (λ e.
         subst (λ (c : Vertex). Companion (P k) (rs ▹ v) s.setup c (get_or s.stops k 0)) (sym (companion_at inv.noted some g k l h))
-        (companion_more rs s.setup (g.f k) v (get_or s.stops k 0) (more k) (g.each k l h))) in
+        (companion_more rs s.setup (g.f k) v (get_or s.stops k 0) (λ u q. more k u (λ d. grind (arith, nat_tests)) q) (g.each k l h))) in
         rw (stays, first) (record { f = f; are = refl; each = each })
 
   -- m readings of this iteration were told before, and none of them and not this one was lower
@@ -345,7 +349,7 @@ module _ (Q : ℕ → (ℕ → Float) → Type 0) (rs : List Vertex) (v : Vertex
     -- the first unread companion from the i-th on is asked, i readings of companions being told at most
     checks : (i : ℕ) (keeping : Keeping) (gs : List Vertex) → 1 ≤ i → m + 1 ≤ s.setup.n + (i - 1)
         → Gathers (rs ▹ v) gs (gathered_after (Go keeping Basing) v s)
-        → Grouped Q (rs ▹ v) s.setup (best_after s.readings v s.best) s.stops (standing_after (Go keeping Basing) v s)
+        → Grouped (λ k f. Q k f × (s.phase ≡ Checking k → ⊥)) (rs ▹ v) s.setup (best_after s.readings v s.best) s.stops (standing_after (Go keeping Basing) v s)
         → ((j : ℕ) → i ≤ j → j ≤ s.setup.n → get_or (standing_after (Go keeping Basing) v s).numbers j 0 ≡ get_or s.standing.numbers j 0)
         → Takes (checks_from i keeping s)
     checks i keeping gs low fit gathers grouped same =
@@ -354,7 +358,7 @@ module _ (Q : ℕ → (ℕ → Float) → Type 0) (rs : List Vertex) (v : Vertex
         cond_both (leb j s.setup.n) _ _ Takes
         (λ e.
         let high : j ≤ s.setup.n = grind (arith, nat_tests) in
-        goes_on m turns some told fits keeping (Checking j) gs gathers (grouped_more (rs ▹ v) s.setup (best_after s.readings v s.best) s.stops (standing_after (Go keeping Basing) v s) (λ i f q. inl q) grouped)
+        goes_on m turns some told fits keeping (Checking j) gs gathers (grouped_more (rs ▹ v) s.setup (best_after s.readings v s.best) s.stops (standing_after (Go keeping Basing) v s) (λ k f q. inl (q.0, (q.1, λ u r. r))) grouped)
         (record { low = omega (arith, r.from); high = high; unread = same j r.from high ∙ r.unread (omega arith); some = omega arith; told = omega (arith, r.from, one m turns some told fits) }) tt)
         (λ e. halves)
 
@@ -371,6 +375,10 @@ module _ (Q : ℕ → (ℕ → Float) → Type 0) (rs : List Vertex) (v : Vertex
   module _ (i : ℕ) (now : s.phase ≡ Mirroring i) (h : AtMirror i s.setup.n inv.gs s.readings s.counts) where
     turns_mirror : view s.phase ≡ Turns
     turns_mirror = rw now refl
+
+    -- no companion is asked
+    not_checking : (k : ℕ) → s.phase ≡ Checking k → ⊥
+    not_checking k e = absurd (let other : Mirroring i ≡ Checking k = sym now ∙ e in cc)
 
     -- it is gathered after those told before it
     gathers_told : Gathers (rs ▹ v) (inv.gs ++ v ∷ []) (gathered_after (Go (Told i) Basing) v s)
@@ -418,10 +426,10 @@ module _ (Q : ℕ → (ℕ → Float) → Type 0) (rs : List Vertex) (v : Vertex
         (λ e.
         let higher : s.best.cost ≤ v.cost = grind (arith, nat_tests) in
         cond_both (is_last i s) _ _ Takes
-        (λ d. checks m turns_mirror h.some h.told fits higher 1 (Told i) (inv.gs ++ v ∷ []) (omega arith) (grind (arith, nat_tests)) gathers_told (stand_on h.some higher (λ k f q. q)) (λ j a b. refl))
+        (λ d. checks m turns_mirror h.some h.told fits higher 1 (Told i) (inv.gs ++ v ∷ []) (omega arith) (grind (arith, nat_tests)) gathers_told (stand_on h.some higher (λ k f q. (q, not_checking k))) (λ j a b. refl))
         (λ d.
         let high : i < s.setup.n = grind (arith, nat_tests, h.high) in
-        goes_on m turns_mirror h.some h.told fits (Told i) (Mirroring (i + 1)) (inv.gs ++ v ∷ []) gathers_told (stand_on h.some higher (λ k f q. inl q))
+        goes_on m turns_mirror h.some h.told fits (Told i) (Mirroring (i + 1)) (inv.gs ++ v ∷ []) gathers_told (stand_on h.some higher (λ k f q. inl (q, (not_checking k, λ u r. r))))
         (record {
           low = omega arith;
           high = omega arith;
@@ -436,6 +444,10 @@ module _ (Q : ℕ → (ℕ → Float) → Type 0) (rs : List Vertex) (v : Vertex
     turns_check : view s.phase ≡ Turns
     turns_check = rw now refl
 
+    -- no other companion is asked
+    asked : (k : ℕ) → s.phase ≡ Checking k → i ≡ k
+    asked k e = let same : Checking i ≡ Checking k = sym now ∙ e in cc
+
     -- a lower one swaps with the base; the others stay, read or unread
     swapped_each : (k : ℕ) → 1 ≤ k → k ≤ s.setup.n → Companion (Then (Regroup (Swapped i)) k) (rs ▹ v) s.setup (companion_after (Swapped i) v s k) (stop_after (Swapped i) v s k)
     swapped_each k l m =
@@ -445,7 +457,7 @@ module _ (Q : ℕ → (ℕ → Float) → Type 0) (rs : List Vertex) (v : Vertex
         (λ e.
         rw e
         (subst (λ (c : Vertex). Companion (Then (Regroup (Swapped i)) k) (rs ▹ v) s.setup c (get_or s.stops k 0)) (sym (companion_at inv.noted h.some g k l m))
-        (companion_more rs s.setup (g.f k) v (get_or s.stops k 0) (λ f q. inl q) (g.each k l m))))
+        (companion_more rs s.setup (g.f k) v (get_or s.stops k 0) (λ f q. inl (q, (λ d. grind (arith, nat_tests, asked k d), λ u r. r))) (g.each k l m))))
         (cases_Bool (eqb k i))
 
     -- the reading stands at its place, and the places after it are as they were
@@ -469,7 +481,7 @@ module _ (Q : ℕ → (ℕ → Float) → Type 0) (rs : List Vertex) (v : Vertex
         ends m turns_check h.some h.told fits (Swapped i) refl (best_falls s.readings v s.best h.some falls) swapped_each)
         (λ e.
         let higher : s.best.cost ≤ v.cost = grind (arith, nat_tests) in
-        checks m turns_check h.some h.told fits higher (i + 1) (Read i) inv.gs (omega arith) (omega (arith, h.low)) same_gathered (stand_read h.some higher (λ k f q. q) i) same_after)
+        checks m turns_check h.some h.told fits higher (i + 1) (Read i) inv.gs (omega arith) (omega (arith, h.low)) same_gathered (stand_read h.some higher i (λ k f d q. (q, λ e. d (asked k e)))) same_after)
 
   -- ---- a probe
 
@@ -492,7 +504,7 @@ module _ (Q : ℕ → (ℕ → Float) → Type 0) (rs : List Vertex) (v : Vertex
         (record {
           gs = inv.gs;
           gathers = record { are = inv.gathers.are; known = known_more inv.gs rs v inv.gathers.known };
-          grouped = stand_on h.some higher (λ k f q. inl q);
+          grouped = stand_on h.some higher (λ k f q. inl (q, (λ e. absurd (let other : Probing p ≡ Checking k = sym now ∙ e in cc), λ u r. r)));
           counts = counted_probe;
           phase = here;
           closed = apart_probe;
