@@ -267,10 +267,10 @@ turn_openings_given =
     ∷ by_method Multidirectional (Some (Spread 0)) usual 100 ∷ by_method Multidirectional (Some (Moved nan)) usual 100
     ∷ by_method Multidirectional (Some (Size (bits 0))) usual 100 ∷ by_method Multidirectional None bad_coefficients 100
     ∷ open_verdict Multidirectional 2 (two_axes good_axis leaping_axis) None usual 100 ∷ open_verdict Multidirectional 0 good None usual 100
-    -- 7 after it, and as it was: n and n + 1
+    -- 7 after it, and as with Nelder-Mead: n and n + 1
     ∷ by_method Multidirectional None usual 2 ∷ by_method Multidirectional (Some (Size (bits 1))) usual 2
     ∷ by_method Multidirectional (Some (Size (bits 1))) usual 3
-    -- 5 as it was, though no coefficient is used
+    -- 5 as with Nelder-Mead, though no coefficient is used
     ∷ by_method Multidirectional (Some (Size (bits 1))) bad_coefficients 100
     ∷ []
 
@@ -293,16 +293,19 @@ pinched_at k = at pinched pinched_costs k
 abbrev pub held : Axis → Axis → ℕ → Search
 held x y k = with_limits x y past (pinched_at k)
 
--- limits of axis 1 at its companions: −0.5 and 0.3; a float more, and a float less; limits far from all coordinates
+-- limits of axis 1 at its companions, −0.5 and 0.3
 abbrev pub at_edges : Axis
 at_edges = limits 0xbfe0_0000_0000_0000 0x3fd3_3333_3333_3333
 
+-- lo is the float above
 abbrev pub above_lo : Axis
 above_lo = limits 0xbfdf_ffff_ffff_ffff 0x3fd3_3333_3333_3333
 
+-- hi is the float below
 abbrev pub below_hi : Axis
 below_hi = limits 0xbfe0_0000_0000_0000 0x3fd3_3333_3333_3332
 
+-- limits far from all coordinates
 abbrev pub at_large : Axis
 at_large = limits 0xc020_0000_0000_0000 0x4020_0000_0000_0000
 
@@ -340,8 +343,7 @@ turn_causes_given =
     ∷ by_ask (as_nm (with_phase Reflecting (with_standing [] (held above_lo at_large 1))))
     -- a reflection's number: 0, 1, n and n + 1
     ∷ by_ask (with_phase (Mirroring 0) (pinched_at 1)) ∷ by_ask (with_phase (Mirroring 1) (pinched_at 1))
-    ∷ by_ask (with_phase (Mirroring 2) (pinched_at 1))
-    ∷ by_ask (with_phase (Mirroring 3) (pinched_at 1))
+    ∷ by_ask (with_phase (Mirroring 2) (pinched_at 1)) ∷ by_ask (with_phase (Mirroring 3) (pinched_at 1))
     -- a companion's: 0, 1, n and n + 1, no place having a number; a read one, and the next; with Nelder-Mead as well
     ∷ by_ask (with_phase (Checking 0) (with_numbers [] (pinched_at 1))) ∷ by_ask (with_phase (Checking 1) (with_numbers [] (pinched_at 1)))
     ∷ by_ask (with_phase (Checking 2) (with_numbers [] (pinched_at 1))) ∷ by_ask (with_phase (Checking 3) (with_numbers [] (pinched_at 1)))
