@@ -3,13 +3,12 @@
 ghost use Rattle.std.specs.Prelude.{◌≡◌, [], ◌≤◌, replicate};
 ghost use Rattle.rules.specs.Numbers.{max_cost};
 ghost use Rattle.rules.specs.Simplex.{pack};
-ghost use Rattle.rules.specs.Companions.{unread_at, built, halved, base_after, companion_after, stop_after, group_after, stops_by};
+ghost use Rattle.rules.specs.Companions.{unread_at, halved, base_after, companion_after, stop_after, group_after, stops_by};
 ghost use Rattle.engine.specs.Places.{no_trial};
 ghost use Rattle.engine.specs.Ready.{Ready};
 
 use super::float::moved_from;
 use super::place::{blank, place_at, put};
-use super::point::build_step;
 use super::trial;
 use rules::{Change, Phase, Search, Simplex, Trial, Vertex};
 
@@ -18,18 +17,6 @@ use rules::{Change, Phase, Search, Simplex, Trial, Vertex};
 struct Made {
     vertex: Vertex,
     stops: u64,
-}
-
-// Companion i of the base v, as trial i of a build.
-#[tactic(auto, using(crate::proofs::Laws::Filling::trials), unfolding(rules::specs::Simplex::up_to, rules::specs::Trial::stops_to))]
-fn built(s: &Search, v: &Vertex, i: usize, out: &mut Trial)
-    requires { (s.now.setup.n ≤ 8) × (out.old ≡ no_trial) }
-    ensures { out.new ≡ built v.now s.now i }
-{
-    for a in 0..s.setup.n {
-        let x = &s.setup.axes[a];
-        trial::put(out, x, a, build_step(x, v.point[a], i, a));
-    }
 }
 
 // Companion i, half the way to the base.
@@ -46,7 +33,7 @@ fn halved(s: &Search, i: usize, out: &mut Trial)
     }
 }
 
-// A companion that has been read: no stops are kept for it.
+// What a swap puts in a companion's place, which is read: no stops are kept for it.
 fn read(vertex: Vertex) -> Made
     ensures vertex { result.vertex ≡ vertex }
     ensures stops { result.stops ≡ 0 }
@@ -80,7 +67,7 @@ fn companion(s: &Search, change: Change, u: &Vertex, i: usize) -> Made
     };
     match change {
         Change::Built => {
-            built(s, u, i, &mut made);
+            trial::built(s, &u.point, i, &mut made);
             unread(made)
         }
         Change::Mirrored(j) if i < j => read(place_at(&s.gathered, i - 1)),

@@ -1,4 +1,4 @@
-// The arithmetic of one axis: the clamp, the turn of a ring, and the form of every move.
+// The arithmetic of one axis: the clamp, the turn of a ring, and the form of every move but a reflection through a base.
 ghost use Rattle.std.specs.Prelude.{◌≡◌};
 ghost use Rattle.rules.specs.Binary64.{clamp, brought_round};
 ghost use Rattle.rules.specs.Trial.{move, brought_in, at_stop, within};
@@ -54,7 +54,7 @@ pub(super) fn within(x: &Axis, v: f64) -> bool
     x.lo <= v && if x.ring { v < x.hi } else { v <= x.hi }
 }
 
-// from + k * (to - back), the form of every move.
+// from + k * (to - back), the form of every move but that reflection.
 pub(super) fn moved_from(from: f64, k: f64, to: f64, back: f64) -> f64
     ensures { result ≡ move from k to back }
 {

@@ -76,8 +76,8 @@ pub fn best(search: &Search) -> Result<Vertex, Refusal>
     })
 }
 
-// The refusal's number in document 01's table, and 13 and 14 of document 02. A call and no From: a u64 would not say of which table, and `rules`, where
-// Refusal stands, has no function.
+// The refusal's number in document 01's table, and 13 and 14 of document 02. A call and no From: a u64 would not say of which table, and `rules`,
+// where Refusal stands, has no function.
 pub fn refusal_number(refusal: Refusal) -> u64
     ensures { result ≡ number_of refusal }
 {

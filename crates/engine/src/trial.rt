@@ -1,8 +1,9 @@
 // The trial of each phase: one loop over the axes for each of them, so that no axis asks for the phase again, and the centroid once for all axes.
 // Each coordinate is brought into its axis, and counted where the clamp changes it. The loops write the trial in place, since one given back by each
 // would be copied.
-ghost use Rattle.std.specs.Prelude.{◌≡◌, cond, ◌+◌, ◌≤◌, ◌<◌, set};
-ghost use Rattle.rules.specs.Trial.{brought_in, at_stop, centroid, toward_reflected, toward_worst, mirrored, target, made, trial_in};
+ghost use Rattle.std.specs.Prelude.{◌≡◌, cond, ◌+◌, ◌≤◌, ◌<◌, set, get_or};
+ghost use Rattle.std.specs.Float.{nan};
+ghost use Rattle.rules.specs.Trial.{axis, build_step, brought_in, at_stop, centroid, toward_reflected, toward_worst, mirrored, target, made, trial_in};
 ghost use Rattle.rules.specs.declared.Phase.TheVariants.{Building, Reflecting, Shrinking, Mirroring, Checking, Probing};
 ghost use Rattle.engine.specs.Places.{no_trial};
 ghost use Rattle.engine.specs.Ready.{Askable};
@@ -23,16 +24,16 @@ pub(super) fn put(trial: &mut Trial, x: &Axis, a: usize, v: f64)
     }
 }
 
-// Trial i of a build.
+// Trial i of a build around this point, which is companion i of a base there.
 #[tactic(auto, using(crate::proofs::Laws::Filling::trials), unfolding(rules::specs::Simplex::up_to, rules::specs::Trial::stops_to))]
-fn built(s: &Search, i: usize, out: &mut Trial)
+pub(super) fn built(s: &Search, around: &[f64; 8], i: usize, out: &mut Trial)
     requires { (s.now.setup.n ≤ 8) × (out.old ≡ no_trial) }
-    ensures { out.new ≡ trial_in (Building i) s.now }
+    ensures { out.new ≡ made s.now.setup s.now.setup.n (λ a. build_step (axis s.now.setup a) (get_or around.now a nan) i a) }
 {
     let n = s.setup.n;
     for a in 0..n {
         let x = &s.setup.axes[a];
-        put(out, x, a, build_step(x, s.center[a], i, a));
+        put(out, x, a, build_step(x, around[a], i, a));
     }
 }
 
@@ -175,13 +176,13 @@ pub(super) fn trial(s: &Search, phase: Phase) -> Trial
         stops: 0,
     };
     match phase {
-        Phase::Building(i) => built(s, i, &mut out),
+        Phase::Building(i) => built(s, &s.center, i, &mut out),
         Phase::Reflecting => reflected(s, &mut out),
         Phase::Expanding => along(s, s.setup.coefficients.chi, &mut out),
         Phase::Contracting(Side::Outside) => along(s, s.setup.coefficients.beta, &mut out),
         Phase::Contracting(Side::Inside) => inside(s, &mut out),
         Phase::Shrinking(j) => shrunk(s, j, &mut out),
-        Phase::Basing => built(s, 0, &mut out),
+        Phase::Basing => built(s, &s.center, 0, &mut out),
         Phase::Mirroring(i) => mirrored(s, i, &mut out),
         Phase::Checking(i) => checked(s, i, &mut out),
         Phase::Probing(p) => probed(s, p, &mut out),

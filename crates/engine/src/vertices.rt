@@ -1,5 +1,5 @@
-// The vertices after a decision: the one that enters, the standing and the gathered places, and the stops of companions. Why `Ready` stands in the contracts is said in
-// accept.rt.
+// The vertices after a decision: the one that enters, the standing and the gathered places, and the stops of companions. Why `Ready` stands in the
+// contracts is said in accept.rt.
 ghost use Rattle.std.specs.Prelude.{◌≡◌, ◌≤◌};
 ghost use Rattle.rules.specs.Numbers.{max_cost};
 ghost use Rattle.rules.specs.Accept.{entrant, standing_with, standing_after, stops_after, gathered_with, gathered_after};

@@ -27,7 +27,7 @@ pub(super) fn is_ended(phase: Phase) -> bool
     matches!(view(phase), View::Over(_))
 }
 
-// How many vertices the unfinished build or iteration has gathered; a multidirectional one gathers none.
+// How many vertices the unfinished build or iteration has gathered; the reflections of a multidirectional one count as none.
 pub(super) fn gathered_in(phase: Phase) -> usize
     ensures { result ≡ gathered_in phase }
 {

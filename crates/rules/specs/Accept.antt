@@ -94,7 +94,7 @@ stops_after (Stand piece) u s = s.stops
 stops_after Restart u s = s.stops
 stops_after (Regroup change) u s = stops_by (stop_after change u s) s.setup.n
 
--- the point that companions are built around, if they are
+-- the point that companions are built around, if they are: "A restart builds unread companions around the lower point"
 abbrev pub center_with : Change → Vertex → Search → List Float
 center_with Built u s = u.point
 center_with (Mirrored j) u s = s.center
@@ -128,7 +128,7 @@ moved (Regroup change) u s = 0ᶠ
 abbrev pub is_met : Decision → Vertex → Search → Bool
 is_met d u s = tested s.setup.rule s.setup.n (finished_by d) (moved d u s) (unpack (s.setup.n + 1) (standing_after d u s))
 
--- the phase that opens an iteration
+-- the phase that opens an iteration: r, or the first of "reflections x0 + (x0 − xi) for i = 1 to n"
 abbrev pub opens : Method → Phase
 opens NelderMead = Reflecting
 opens Multidirectional = Mirroring 1

@@ -72,12 +72,12 @@ sound_rule (Size e) = true
 abbrev pub sound_counts : ℕ → Counts → Bool
 sound_counts b c = leb c.builds b && leb c.reflections b && leb c.expansions b && leb c.contractions b && leb c.shrinks b && leb c.patterns b && leb c.probes b && leb c.unfinished b && leb c.directed b
 
--- f holds of the first k
+-- f holds of the first k, as of the axes and of the companions below
 unfoldable pub every : (ℕ → Bool) → ℕ → Bool
 every f zero = true
 every f (suc k) = every f k && f k
 
--- companion i lies within the first n axes, in this run of points
+-- clamping does not change companion i on the first n axes, in this run of points
 abbrev pub companion_within : Setup → List Float → ℕ → Bool
 companion_within t ps i = every (λ a. within (axis t a) (entry ps a i)) t.n
 

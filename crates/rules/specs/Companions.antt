@@ -35,7 +35,7 @@ halved s i = made s.setup s.setup.n (halfway s.standing.points i)
 
 -- ---- the base and the companions after a change; v is the reading
 
--- the base
+-- "A base x0", at place 1
 abbrev pub base : Search → Vertex
 base s = place s.standing 0
 
@@ -67,21 +67,21 @@ stop_after Halved v s i = (halved s i).stops
 abbrev pub group : Vertex → (ℕ → Vertex) → ℕ → List Vertex
 group v f n = v ∷ up_to (λ k. f (suc k)) n
 
--- base and companions after the change
+-- "A base x0 has n companions xi": both after the change
 abbrev pub group_after : Change → Vertex → Search → List Vertex
 group_after c v s = group (base_after c v s) (companion_after c v s) s.setup.n
 
--- base and companions with companion i as the reading v
+-- "it reads the unread companions in order": both with companion i as the reading v
 abbrev pub group_read : ℕ → Vertex → Search → List Vertex
 group_read i v s = group (base s) (λ k. cond (eqb k i) v (place s.standing k)) s.setup.n
 
--- the stops of companions 1 to n, g 1 to g n, in nine places
+-- "its trial carries that count": those of companions 1 to n, g 1 to g n, in nine places
 abbrev pub stops_by : (ℕ → ℕ) → ℕ → List ℕ
 stops_by g n = 0 ∷ (up_to (λ k. g (suc k)) n ++ replicate (8 - n) 0)
 
 -- ---- the unread ones
 
--- the first of k indices, from i on, whose number is 0; i + k where there is none
+-- "the unread companions in order": the first of k indices, from i on, whose number is 0; i + k where there is none
 unfoldable pub unread_from : ℕ → List ℕ → ℕ → ℕ
 unread_from zero ns i = i
 unread_from (suc k) ns i = cond (eqb (get_or ns i 0) 0) i (unread_from k ns (suc i))

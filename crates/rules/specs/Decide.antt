@@ -1,5 +1,5 @@
--- "Iteration", its table, the iteration of the multidirectional search, and the ends of builds, shrinks and probe rounds: what a reading decides, by its phase and the costs. Of what a
--- reading does, only the insertion and the best compare costs besides.
+-- "Iteration", its table, the iteration of the multidirectional search, and the ends of builds, shrinks and probe rounds: what a reading decides, by
+-- its phase and the costs. Of what a reading does, only the insertion and the best compare costs besides.
 use Rattle.std.specs.Prelude.{Bool, cond, ℕ, ◌+◌, ◌-◌, ◌*◌, get_or, leb, ltb, eqb, Option, Some, None}
 use Rattle.rules.specs.Companions.{next_unread}
 use Rattle.rules.specs.declared.Search.{Search}
@@ -36,7 +36,7 @@ fw s = get_or s.standing.costs s.setup.n 0
 abbrev pub fr : Search → ℕ
 fr s = get_or s.gathered.costs 0 0
 
--- trial i is the last of a build or a shrink
+-- trial i is the last of a build or a shrink, reflection i the last of an iteration
 abbrev pub is_last : ℕ → Search → Bool
 is_last i s = eqb i s.setup.n
 
@@ -108,7 +108,7 @@ decided (Checking i) s f = cond (lower f s) (Regroup (Swapped i)) (checks_from (
 decided (Probing p) s f = cond (ends_round f s) (restart s.method) (cond (is_full p s) (Go Nothing (Ended Settled)) (Go Nothing (Probing (p + 1))))
 decided (Ended cause) s f = Go Nothing (Ended cause)
 
--- a change ends a multidirectional iteration, but where companions are built
+-- a change ends a multidirectional iteration, except where companions are built: "readings are at most 1 + 2n·(finished iterations + 1) + probes"
 abbrev pub completed : Change → Option Piece
 completed Built = None
 completed (Mirrored j) = Some Pattern

@@ -1,4 +1,4 @@
--- "Counts": the finished pieces, probes and open readings of a history, counted by the rules and apart from what a search carries.
+-- "Counts": the finished pieces of a history, its probes, its open readings and those in multidirectional iterations, counted by the rules and apart from what a search carries.
 use Rattle.std.specs.Prelude.{◌≡◌, Bool, true, false, cond, not, ◌&&◌, ◌||◌, List, [], ◌∷◌, ◌++◌, ℕ, zero, suc, ◌+◌, ◌-◌, ◌*◌, get_or, leb, ltb, eqb}
 use Rattle.rules.specs.Count.{same}
 use Rattle.rules.specs.Decide.{f1, fn, fw, fr}

@@ -23,7 +23,7 @@ view (Ended cause) = Over cause
 abbrev pub is_ended : Phase → Bool
 is_ended p = elim (view p) [ Builds i ↦ false | Iterates k ↦ false | Turns ↦ false | Probes q ↦ false | Over cause ↦ true ]
 
--- how many vertices the unfinished build or iteration has gathered; a multidirectional one gathers none
+-- how many vertices the unfinished build or iteration has gathered; the reflections of a multidirectional one count as none
 abbrev pub gathered_in : Phase → ℕ
 gathered_in p = elim (view p) [ Builds i ↦ i | Iterates k ↦ k | Turns ↦ 0 | Probes q ↦ 0 | Over cause ↦ 0 ]
 

@@ -140,7 +140,7 @@ pub enum Newcomer {
     Reflected,
 }
 
-// What is gathered where a piece or a probe round goes on.
+// What is kept of a reading where a piece or a probe round goes on: what is gathered, or that a companion is read.
 #[derive(Clone, Copy)]
 pub enum Keeping {
     // nothing more
@@ -168,7 +168,7 @@ pub enum Change {
     Halved,
 }
 
-// What a reading decides, by the table.
+// What a reading decides, by the table or by the multidirectional iteration.
 #[derive(Clone, Copy)]
 pub enum Decision {
     // the piece or the probe round goes on, or the search has settled: what is gathered, and the next phase
@@ -178,10 +178,10 @@ pub enum Decision {
     // the gathered vertices stand, the trial among them, which ends a build or a shrink: it is counted, the rule is tested, nothing
     // is gathered
     Stand(Piece),
-    // a probe was lower: a build goes around it, from trial 1 on, with the probe gathered
+    // a probe was lower in Nelder-Mead: a build goes around it, from trial 1 on, with the probe gathered
     Restart,
-    // a base and its companions stand so; but where they are built that ends an iteration: it is counted, the rule is tested; nothing is
-    // gathered
+    // a base and its companions stand so, and nothing is gathered; except where companions are built this ends an iteration: it is counted, and the
+    // rule is tested
     Regroup(Change),
 }
 
@@ -210,7 +210,7 @@ pub struct Simplex {
 }
 
 // Finished builds, reflections, expansions, contractions and shrinks; finished multidirectional iterations, as patterns, and the readings told in
-// them, as directed; probe readings; and the readings told in the unfinished piece, which document 01 calls Open.
+// such iterations, finished or not, as directed; probe readings; and the readings told in the unfinished piece, which document 01 calls Open.
 #[derive(Clone, Copy, Default)]
 pub struct Counts {
     pub builds: u64,

@@ -30,7 +30,7 @@ unread_tells zero i n ns e = grind (arith, nat_tests)
 unread_tells (suc k) i n ns e = grind (arith, nat_tests, unread_tells k (suc i) n ns (omega arith))
 
 -- of n companions, from the i-th on
-pub unread_or_read : (n i : ℕ) (ns : List ℕ) → leb (next_unread n ns i) n ≡ not (all_read (n + 1 - i) i ns)
+unread_or_read : (n i : ℕ) (ns : List ℕ) → leb (next_unread n ns i) n ≡ not (all_read (n + 1 - i) i ns)
 unread_or_read n i ns = unread_tells (n + 1 - i) i n ns refl
 
 -- in every phase the tally has those that the decision finishes

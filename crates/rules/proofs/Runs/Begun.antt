@@ -68,12 +68,12 @@ module _ (o : Search) (begun : Begun o) where
     whole_run = ran [] o (begun_any o begun) begun.below h t
 
     -- each unread companion was made by a cost of the history
-    pub run_made : AnyOf (MadeAt o h) (readings_of o h) (run o h)
+    run_made : AnyOf (MadeAt o h) (readings_of o h) (run o h)
     run_made =
         any_more {P = MadeAt o h} (readings_of o h) (run o h) (λ i f. ⊎_elim (λ q. absurd q.0) (λ m. made_at o h i f m))
         (ran_made NoneYet [] o begun.inv begun.below h t)
 
-    pub run_any : Any (readings_of o h) (run o h)
+    run_any : Any (readings_of o h) (run o h)
     run_any = whole_run.inv
 
     pub run_noted : Noted (readings_of o h) (run o h).setup (run o h).readings (run o h).best

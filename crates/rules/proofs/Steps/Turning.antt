@@ -294,7 +294,7 @@ module _ (Q : ℕ → (ℕ → Float) → Type 0) (rs : List Vertex) (v : Vertex
   -- ---- the base
 
   -- the first reading of all is the base
-  pub base_step : s.phase ≡ Basing → s.readings ≡ 0 → Takes (decided Basing s v.cost)
+  base_step : s.phase ≡ Basing → s.readings ≡ 0 → Takes (decided Basing s v.cost)
   unfolding decided
   base_step now first =
       let h = inv.counts in
@@ -346,7 +346,8 @@ module _ (Q : ℕ → (ℕ → Float) → Type 0) (rs : List Vertex) (v : Vertex
         (stays some higher ∙ sym (base_at inv.noted some (inv.grouped some)))
         (λ i l h. is_unread (halfway s.standing.points i) (inr (λ a. refl)))
 
-    -- the first unread companion from the i-th on is asked, i readings of companions being told at most
+    -- the first unread companion from the i-th on is asked, i readings of companions being told at most. What is kept does not go by the phase that
+    -- follows, so Basing stands for it
     checks : (i : ℕ) (keeping : Keeping) (gs : List Vertex) → 1 ≤ i → m + 1 ≤ s.setup.n + (i - 1)
         → Gathers (rs ▹ v) gs (gathered_after (Go keeping Basing) v s)
         → Grouped (λ k f. Q k f × (s.phase ≡ Checking k → ⊥)) (rs ▹ v) s.setup (best_after s.readings v s.best) s.stops (standing_after (Go keeping Basing) v s)
@@ -413,7 +414,7 @@ module _ (Q : ℕ → (ℕ → Float) → Type 0) (rs : List Vertex) (v : Vertex
         (is_unread (target s (Mirroring k)) (inr (grind (arith, nat_tests), λ a. refl)))))
 
     -- it is lower, or the next one, or a companion is asked
-    pub mirror_step : Takes (decided (Mirroring i) s v.cost)
+    mirror_step : Takes (decided (Mirroring i) s v.cost)
     unfolding decided
     mirror_step =
         let cost = base_cost h.some in
@@ -468,7 +469,7 @@ module _ (Q : ℕ → (ℕ → Float) → Type 0) (rs : List Vertex) (v : Vertex
         number_pack (group_read i v s) j ∙ ap number_in (get_or_group (base s) f s.setup.n j (omega arith) m) ∙ rw other refl
 
     -- it is lower, or the next one is asked, or all are halved
-    pub check_step : Takes (decided (Checking i) s v.cost)
+    check_step : Takes (decided (Checking i) s v.cost)
     unfolding decided
     check_step =
         let cost = base_cost h.some in
@@ -513,7 +514,7 @@ module _ (Q : ℕ → (ℕ → Float) → Type 0) (rs : List Vertex) (v : Vertex
         })
 
     -- a lower one is the base of new companions; another leads to the next one, or settles the search
-    pub multi_probe_step : Takes (decided (Probing p) s v.cost)
+    multi_probe_step : Takes (decided (Probing p) s v.cost)
     unfolding decided
     multi_probe_step =
         cond_both (ends_round v.cost s) _ _ Takes
