@@ -1,7 +1,7 @@
-// Further cases: a restart, the budget in each phase, settled, a ring, and dark frames.
+// Further cases: a restart, the budget in each phase, settled, a ring, a base and its companions, and dark frames.
 use super::openings::{opening, ring, search, with_second};
 use super::play::{play_each, repeat};
-use rules::{MAX_COST, Rule};
+use rules::{MAX_COST, Method, Opening, Rule};
 use std::io;
 
 // No rule named, spread 4: three equal costs meet it. The third probe is lower: a restart builds around it, its own
@@ -72,6 +72,26 @@ fn going_round(rt: &impl Print) -> io::Result<()> {
     play_each(rt, s, &[&[10, 10, 10, 10, 10, 10, 9]])
 }
 
+// The multidirectional search: a reflection is lower, and then a companion; none is, so that the companions are halved; for dark frames it settles.
+fn turning(rt: &impl Print) -> io::Result<()> {
+    println!(rt; "a base and its companions")?;
+    let turned = Opening {
+        method: Method::Multidirectional,
+        ..opening(2, 0.0, 8.0, Some(Rule::Size(0.5)), 100)
+    };
+    let s = engine::open_search(&turned).search;
+    play_each(
+        rt,
+        s,
+        &[
+            &[30, 20, 20, 25, 10, 15],
+            &[30, 30, 40, 20, 25],
+            &[30, 30, 40, 30, 35, 29],
+        ],
+    )?;
+    repeat(rt, s, MAX_COST, 61)
+}
+
 // Dark frames for ever: with spread the search settles, and with a small size it shrinks and never folds.
 fn dark(rt: &impl Print, n: usize) -> io::Result<()> {
     println!(rt; "dark frames, axes {n}")?;
@@ -88,6 +108,7 @@ pub(super) fn all(rt: &impl Print) -> io::Result<()> {
     spent_late(rt)?;
     settled(rt)?;
     going_round(rt)?;
+    turning(rt)?;
     for n in [1, 2, 3, 8] {
         dark(rt, n)?;
     }

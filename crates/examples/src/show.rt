@@ -42,7 +42,7 @@ fn phase_name(phase: Phase) -> &'static str {
 }
 
 // Writes where a search stands: its phase, its best reading with its number (zeros where nothing is read), its counts (builds, reflections,
-// expansions, contractions, shrinks, probes, open readings).
+// expansions, contractions, shrinks, probes, open readings; multidirectional iterations and the readings in them).
 pub(super) fn state(rt: &impl Print, s: &Search) -> io::Result<()> {
     let best = engine::best(s).unwrap_or_default();
     let point = Coordinates(&best.point[..s.setup.n.min(8)]);
@@ -54,8 +54,16 @@ pub(super) fn state(rt: &impl Print, s: &Search) -> io::Result<()> {
     )?;
     let c = s.counts;
     println!(rt;
-        "counts {} {} {} {} {} {} {}",
-        c.builds, c.reflections, c.expansions, c.contractions, c.shrinks, c.probes, c.unfinished,
+        "counts {} {} {} {} {} {} {} {} {}",
+        c.builds,
+        c.reflections,
+        c.expansions,
+        c.contractions,
+        c.shrinks,
+        c.probes,
+        c.unfinished,
+        c.patterns,
+        c.directed,
     )
 }
 

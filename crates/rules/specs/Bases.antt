@@ -290,9 +290,10 @@ turn_ends_given =
     ∷ turns_then 0x4020_0000_0000_0000 100 (40 ∷ []) ∷ turns_then 0x4020_0000_0000_0000 100 (40 ∷ 41 ∷ [])
     ∷ turns_then 0x4020_0000_0000_0000 100 (40 ∷ 41 ∷ 42 ∷ 43 ∷ []) ∷ turns_then 0x4020_0000_0000_0000 100 (40 ∷ 30 ∷ [])
     ∷ turns_then 0x4020_0000_0000_0000 100 (40 ∷ 30 ∷ 31 ∷ 32 ∷ 29 ∷ []) ∷ turns_then 0x4020_0000_0000_0000 100 (40 ∷ 30 ∷ 31 ∷ 32 ∷ 29 ∷ 28 ∷ [])
-    -- the budget ends it: one reading before it the search goes on; with the n-th reflection, with a lower one, with a companion, with a lower one,
-    -- and where they are halved
+    -- the budget ends it: one reading before it the search goes on; with the n-th reflection, with a lower one, with one before the n-th, with a
+    -- companion, with a lower one, and where they are halved
     ∷ turns_then least 4 (40 ∷ 41 ∷ 42 ∷ []) ∷ turns_then least 3 (40 ∷ 41 ∷ 42 ∷ []) ∷ turns_then least 3 (40 ∷ 41 ∷ 30 ∷ [])
+    ∷ turns_then least 4 (40 ∷ 41 ∷ 30 ∷ 31 ∷ [])
     ∷ turns_then least 4 (40 ∷ 41 ∷ 42 ∷ 43 ∷ []) ∷ turns_then least 5 (40 ∷ 41 ∷ 42 ∷ 43 ∷ 30 ∷ [])
     ∷ turns_then least 5 (40 ∷ 41 ∷ 42 ∷ 43 ∷ 44 ∷ [])
     -- where the rule is met, amid a probe round, and at a lower probe; the last probe of a round settles it, at the budget too
@@ -309,6 +310,6 @@ turn_ends_stated =
     ∷ Probing 0 ∷ Mirroring 1
     ∷ Probing 0 ∷ Mirroring 1
     ∷ Mirroring 1 ∷ Mirroring 2 ∷ Checking 2 ∷ Probing 0 ∷ Mirroring 1 ∷ Probing 0
-    ∷ Checking 1 ∷ Ended Budget ∷ Ended Budget ∷ Ended Budget ∷ Ended Budget ∷ Ended Budget
+    ∷ Checking 1 ∷ Ended Budget ∷ Ended Budget ∷ Ended Budget ∷ Ended Budget ∷ Ended Budget ∷ Ended Budget
     ∷ Ended Budget ∷ Ended Budget ∷ Ended Budget ∷ Ended Settled ∷ Ended Settled
     ∷ []
