@@ -1,4 +1,5 @@
--- "Build", "Iteration" and the probes of "Stopping, probe, restart": the trial that a search asks for next, its point and its stops, by its phase.
+-- "Build", "Iteration", the probes of "Stopping, probe, restart" and the multidirectional search: the trial that a search asks for next, its point
+-- and its stops, by its phase.
 use Rattle.std.specs.Prelude.{Bool, false, cond, ◌||◌, List, ℕ, zero, suc, ◌+◌, ◌-◌, ◌*◌, ◌/◌, ◌%◌, ◌&&◌, get_or, eqb, Float}
 use Rattle.std.specs.Float.{nan}
 use Rattle.rules.specs.Binary64.{probe_factor, float, clamp, clamp_changes, brought_round, ◌⊕◌, ◌⊖◌, ◌⊗◌, ◌⊘◌, ◌≤ᶠ◌, ◌<ᶠ◌}

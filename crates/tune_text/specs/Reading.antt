@@ -42,7 +42,7 @@ last_turn p line = record { progress = at Done p; line = line }
 unfoldable pub nothing_read : Progress
 nothing_read = record { stage = Head; request = record { n = 0; budget = 0; spread = 0; axes = replicate 8 zero_axis }; search = closed }
 
--- the opening that the lines ask for: "a line with n, budget and spread E (coefficients are the usual ones)"
+-- the opening that the lines ask for: "a line with n, budget and spread E (coefficients are the usual ones)"; the method is Nelder-Mead
 abbrev pub opening_of : Request → Opened
 opening_of q = opening NelderMead q.n q.axes (Some (Spread q.spread)) usual q.budget
 
