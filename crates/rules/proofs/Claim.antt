@@ -30,7 +30,7 @@ use Rattle.rules.specs.declared.Cause.TheVariants.{Settled}
 use Rattle.rules.proofs.Laws.Openings.{opened_verdict, opened_fresh, opened_suits, opened_sane}
 use Rattle.rules.proofs.Laws.Histories.{Joined, readings_of}
 use Rattle.rules.proofs.Steps.Grouped.{Directed, AtCheck, MultiOf}
-use Rattle.rules.proofs.Steps.Turning.{none_stands, base_at, companion_at}
+use Rattle.rules.proofs.Steps.Standing.{none_stands, base_at, companion_at}
 use Rattle.rules.proofs.Runs.Companions.{companion_inside, companion_stops, past_companions}
 use Rattle.rules.proofs.Runs.Begun.{Begun, fresh_begun, whole_run, run_inv, run_multi, is_read, are_read, run_best, run_readings, run_counts, run_probes, run_directed, run_unfinished, run_standing, run_places, run_vertices, run_gathered, run_read}
 use Rattle.rules.proofs.Runs.Moments.{run_first, run_base, made_since, falls_since, run_settled_only, run_settled_when, run_spent, run_within, run_within_told, run_inside, run_stops}

@@ -43,7 +43,7 @@ use Rattle.rules.proofs.Steps.Noting.{best_mem}
 use Rattle.rules.proofs.Steps.Counting.{count_by}
 use Rattle.rules.proofs.Steps.Stepping.{BelowBudget, whole, standing_list, gathered_list}
 use Rattle.rules.proofs.Runs.Running.{Ran, ran, ran_made, made_at, fresh_any, fresh_below}
-use Rattle.rules.proofs.Steps.Turning.{none_stands, none_gathered_yet}
+use Rattle.rules.proofs.Steps.Standing.{none_stands, none_gathered_yet}
 use Rattle.rules.proofs.Steps.Accepting.{noted_of}
 
 -- a search as an opening gives it: nothing told, nothing counted

@@ -25,7 +25,7 @@ use Rattle.rules.proofs.Laws.Openings.{Sane}
 use Rattle.rules.proofs.Laws.Grouping.{length_group, entry_at}
 use Rattle.rules.proofs.Laws.Places.{place_past}
 use Rattle.rules.proofs.Steps.Grouped.{Unread, AtCheck, MultiOf}
-use Rattle.rules.proofs.Steps.Turning.{whole_all, companion_at}
+use Rattle.rules.proofs.Steps.Standing.{whole_all, companion_at}
 
 -- the readings lie within the limits
 abbrev pub Inside : Setup → List Vertex → Type 0

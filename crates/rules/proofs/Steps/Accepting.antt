@@ -28,7 +28,7 @@ use Rattle.rules.proofs.Steps.Stepping.{BelowBudget, TakesReading, takes_more, G
 use Rattle.rules.proofs.Steps.Gathering.{build_step, shrink_step}
 use Rattle.rules.proofs.Steps.Iterating.{reflect_step, expand_step, contract_step}
 use Rattle.rules.proofs.Steps.Probing.{probe_step_lem}
-use Rattle.rules.proofs.Steps.Turning.{turn_step}
+use Rattle.rules.proofs.Steps.Checking.{turn_step}
 
 -- ---- every phase
 
