@@ -15,7 +15,8 @@ use Rattle.rules.specs.Stops.{stops_given, stops_stated, limited_given, limited_
 use Rattle.rules.specs.Rings.{brought_given, brought_stated, ring_openings_given, ring_openings_stated, rings_given, rings_stated}
 use Rattle.rules.specs.RingWalks.{ring_walks_given, ring_walks_stated, plain_given, plain_stated, ring_judged_given, ring_judged_stated, ring_limited_given, ring_limited_stated}
 use Rattle.rules.specs.Bases.{turns_given, turns_stated, turn_ends_given, turn_ends_stated}
-use Rattle.rules.specs.Turns.{moments_given, moments_stated, turn_runs_given, turn_runs_stated, centers_given, centers_stated, turn_tallies_given, turn_tallies_stated, turn_openings_given, turn_openings_stated, turn_causes_given, turn_causes_stated, turn_strays_given, turn_strays_stated, turn_stops_given, turn_stops_stated, leads_given, leads_stated, turn_asks_given, turn_asks_stated}
+use Rattle.rules.specs.Turns.{moments_given, moments_stated, turn_runs_given, turn_runs_stated, centers_given, centers_stated, turn_tallies_given, turn_tallies_stated}
+use Rattle.rules.specs.TurnCauses.{turn_openings_given, turn_openings_stated, turn_causes_given, turn_causes_stated, turn_strays_given, turn_strays_stated, turn_stops_given, turn_stops_stated, leads_given, leads_stated, turn_asks_given, turn_asks_stated}
 use Rattle.rules.proofs.Examples.{floats, rules, calls}
 
 pub walks : walks_given ≡ walks_stated

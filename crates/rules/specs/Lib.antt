@@ -30,3 +30,4 @@ pub mod Rings
 pub mod RingWalks
 pub mod Bases
 pub mod Turns
+pub mod TurnCauses
