@@ -104,13 +104,7 @@ fn companions_step_back_from_hi() {
 /// The step back that is clamped counts in the companion's own trial.
 #[test]
 fn a_built_companion_with_a_stop() {
-    let record = Axis {
-        lo: f64::from_bits(0xbfec_efed_cc22_af58),
-        hi: f64::from_bits(0x3ff7_af02_08d6_af57),
-        start: f64::from_bits(0x3fd2_6e16_458a_af56),
-        step: f64::from_bits(0x3ff3_137c_7774_0382),
-        ring: false,
-    };
+    let record = narrow_axis();
     let search = after(multidirectional(1, &axes(record), 0.001, 100), &[9]);
     assert_stands(&search, 1, &[record.lo], [0, 0, 1]);
     let search = after(search, &[9]);

@@ -26,6 +26,17 @@ use crate::search::Search;
 use crate::types::Method::{Multidirectional, NelderMead};
 use crate::types::{Axis, Coefficients, Point, Rule, ORIGIN};
 
+/// (hi − lo)/2 rounds up and the step is as long: both start + step > hi and start − step < lo (docs/DECISIONS.md, decision 2).
+fn narrow_axis() -> Axis {
+    Axis {
+        lo: f64::from_bits(0xbfec_efed_cc22_af58),
+        hi: f64::from_bits(0x3ff7_af02_08d6_af57),
+        start: f64::from_bits(0x3fd2_6e16_458a_af56),
+        step: f64::from_bits(0x3ff3_137c_7774_0382),
+        ring: false,
+    }
+}
+
 /// The axis of the examples.
 const USUAL_AXIS: Axis = Axis {
     lo: -8.0,

@@ -123,14 +123,7 @@ fn the_step_back_of_a_build_is_no_stop() {
 
 #[test]
 fn a_step_back_that_is_clamped_is_one() {
-    // The opening of docs/DECISIONS.md, decision 2: (hi − lo)/2 rounds up, and the step is as long.
-    let record = Axis {
-        lo: f64::from_bits(0xbfec_efed_cc22_af58),
-        hi: f64::from_bits(0x3ff7_af02_08d6_af57),
-        start: f64::from_bits(0x3fd2_6e16_458a_af56),
-        step: f64::from_bits(0x3ff3_137c_7774_0382),
-        ring: false,
-    };
+    let record = narrow_axis();
     assert!(record.start + record.step > record.hi && record.start - record.step < record.lo);
     let mut given = axes(USUAL_AXIS);
     given[1] = record;
