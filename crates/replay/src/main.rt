@@ -2,8 +2,10 @@
 
 #![tactic(auto)]
 
+use arrayvec::ArrayVec;
+use print::{Line, Malformed};
 use std::io;
-use std::io::{BufWriter, Read, Write};
+use std::io::Read;
 
 mod calls;
 mod parts;
@@ -14,30 +16,30 @@ mod series;
 // The most bytes that a script has.
 const LONGEST: usize = 262144;
 
+// As many are read: one byte more than the most tells that a script is too long.
+const ENOUGH: usize = LONGEST + 1;
+
 // Makes the calls of a script, up to its first malformed line or the first answer that cannot be written.
-fn replay(out: &mut impl Write, script: &[u8]) -> io::Result<()> {
+fn replay(rt: &impl Print, script: &[u8]) -> io::Result<()> {
     let mut search = calls::closed();
+    let mut out = Line::new();
     for (line, number) in script.split_inclusive(|byte| *byte == b'\n').zip(1u64..) {
         let Some(command) = script::command_of(line) else {
-            return print::malformed(out, number);
+            return print::line(rt, &mut out, &Malformed(number));
         };
         let answer = calls::make(&mut search, command);
-        writeln!(out, "{answer}")?;
+        print::line(rt, &mut out, &answer)?;
     }
     Ok(())
 }
 
-// One byte more than the most tells that a script is too long.
+// The script is read into an array: nothing here asks for memory.
 fn main(rt: HostRuntime) -> io::Result<()> {
-    let mut script = Vec::new(rt.alloc());
-    rt.stdin()
-        .take(LONGEST as u64 + 1)
-        .read_to_end(&mut script)?;
-    let mut out = BufWriter::new(rt.alloc(), io::writer(&rt))?;
+    let mut script = ArrayVec::<u8, ENOUGH>::new();
+    io::copy(&mut rt.stdin().take(ENOUGH as u64), &mut script)?;
     if script.len() > LONGEST {
-        print::malformed(&mut out, 0)?;
+        print::line(&rt, &mut Line::new(), &Malformed(0))
     } else {
-        replay(&mut out, &script)?;
+        replay(&rt, &script)
     }
-    out.flush()
 }

@@ -1,19 +1,22 @@
 // The lines of a transcript.
 use super::calls::{Answer, axis_of, number_of};
 use super::series::Total;
+use arrayvec::ArrayString;
 use numerals::bits_of;
 use rules::{Asked, Axis, Cause, Method, Phase, Rule, Search, Setup, Side, Simplex, Vertex};
-use std::fmt::{Display, Formatter};
+use std::fmt::{Display, Formatter, Write};
 use std::{fmt, io};
 
-// Words of a line, each after a space; `examples` prints coordinates so, and says why.
+// Words of a line, which a state has 268 of. Each is written as one piece: by `{word:016x}` such a line takes half as long again.
 #[derive(Clone, Copy)]
 struct Words<'a>(&'a [u64]);
 
 impl Display for Words<'_> {
     fn fmt<W: fmt::Write>(&self, f: &mut Formatter<W>) -> fmt::Result {
+        let mut text = [b' '; 17];
         for word in self.0 {
-            write!(f, " {word:016x}")?;
+            hex::encode_to_slice(word.to_be_bytes(), &mut text[1..]).map_err(|_| fmt::Error)?;
+            f.write_str(str::from_utf8(&text).map_err(|_| fmt::Error)?)?;
         }
         Ok(())
     }
@@ -26,7 +29,7 @@ struct PointWith<'a>(&'a [f64; 8], u64);
 impl Display for PointWith<'_> {
     fn fmt<W: fmt::Write>(&self, f: &mut Formatter<W>) -> fmt::Result {
         let PointWith(point, number) = *self;
-        write!(f, "{} {number:016x}", Words(&point.map(bits_of)))
+        write!(f, "{}{}", Words(&point.map(bits_of)), Words(&[number]))
     }
 }
 
@@ -178,7 +181,22 @@ fn state<W: fmt::Write>(f: &mut Formatter<W>, search: &Search) -> fmt::Result {
     write!(f, "{}", Words(&search.stops))
 }
 
-// The line that says that the script's line of this number is malformed.
-pub(super) fn malformed(out: &mut impl io::Write, number: u64) -> io::Result<()> {
-    writeln!(out, "x{}", Words(&[number]))
+// What is said of the script's line of this number where it is malformed.
+#[derive(Clone, Copy)]
+pub(super) struct Malformed(pub(super) u64);
+
+impl Display for Malformed {
+    fn fmt<W: fmt::Write>(&self, f: &mut Formatter<W>) -> fmt::Result {
+        write!(f, "x{}", Words(&[self.0]))
+    }
+}
+
+// Room for a line; the longest, of a state, has 4,558 bytes.
+pub(super) type Line = ArrayString<4608>;
+
+// Prints a line by a write of its own, so that no answer waits for the call after it.
+pub(super) fn line(rt: &impl Print, out: &mut Line, said: &impl Display) -> io::Result<()> {
+    out.clear();
+    writeln!(out, "{said}").map_err(|_| io::ErrorKind::WriteZero)?;
+    rt.write_all(out.as_bytes())
 }

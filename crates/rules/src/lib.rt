@@ -1,5 +1,5 @@
 // The types of document 01, "Specification of the build and its rules", and the numbers of it that code needs. The rules
-// themselves are the definitions in specs/; this crate has no function.
+// themselves are the definitions in specs/; this crate has no function but what its types derive.
 
 #![tactic(auto)]
 

@@ -6,6 +6,7 @@ ghost use Rattle.std.specs.Prelude.{◌≡◌, false, ◌<◌};
 ghost use Rattle.tune_text.specs.Reading.{is_done};
 ghost use Rattle.tune_text.specs.Steps.{steps_left};
 
+use arrayvec::ArrayVec;
 use std::io;
 use std::io::Read;
 use tune_text::State;
@@ -29,10 +30,10 @@ fn tune(rt: &impl Print, input: &[u8]) -> io::Result<()> {
     Ok(())
 }
 
-// 65,537 bytes are enough to know that an input is too long.
+// 65,537 bytes are enough to know that an input is too long. They are read into an array: nothing here asks for memory.
 fn main(rt: HostRuntime) -> io::Result<()> {
-    let mut input = Vec::new(rt.alloc());
-    rt.stdin().take(65537).read_to_end(&mut input)?;
+    let mut input = ArrayVec::<u8, 65537>::new();
+    io::copy(&mut rt.stdin().take(65537), &mut input)?;
     if tune(&rt, &input).is_err() {
         let _ = rt.eprintln("tune: standard output takes no more");
     }

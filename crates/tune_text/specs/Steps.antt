@@ -61,10 +61,11 @@ abbrev pub steps_left : List ℕ → State → ℕ
 steps_left bytes s = cond (is_done s.progress.stage) 0 (suc (length bytes - s.position))
 
 -- what filling a buffer gives: the lines of so many steps stand at its start, in count bytes, and t is the state after them; where
--- something was left to do and the buffer has room for a line, less is left
+-- something was left to do and the buffer has room for a line, less is left; and where something is left to do, it has no room for one more
 pub record Fills (bytes : List ℕ) (s : State) (buffer : List ℕ) (t : State) (count : ℕ) : Type 0 where
   pub steps : ℕ
   pub lines : take count buffer ≡ printed steps bytes s
   pub state : t ≡ state_after steps bytes s
   pub within : count ≤ length buffer
   pub onward : is_done s.progress.stage ≡ false → 192 ≤ length buffer → steps_left bytes t < steps_left bytes s
+  pub full : is_done t.progress.stage ≡ false → length buffer < count + 192

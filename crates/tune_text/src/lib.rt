@@ -17,7 +17,7 @@ ghost use Rattle.std.specs.Prelude.{◌≡◌};
 ghost use Rattle.tune_text.specs.Reading.{is_done};
 ghost use Rattle.tune_text.specs.Steps.{first_state, stepping, Fills};
 
-// A line of the output with its newline, or no line: empty, since the lines put together are the output. The longest line has 178 bytes.
+// A line of the output with its newline, or no line: empty, since the lines put together are the output. The longest line has 190 bytes.
 pub type Line = ArrayVec<u8, 192>;
 
 // What the next line is: the line of n, budget and spread E; axis line k, from 0; a cost; or none. A value and no closure, since it is kept

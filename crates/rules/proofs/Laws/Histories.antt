@@ -1,6 +1,6 @@
 -- Laws on histories: what the rules make of one list of events after another. Assumes nothing.
 use mathlib.Core.Path.{◌≡◌, refl, sym, ap, ◌∙◌}
-use mathlib.Core.Bool.{true, false, true≢false}
+use mathlib.Core.Bool.{true, false, cond, true≢false}
 use mathlib.Core.List.Memᴰ
 use mathlib.Core.List.{List, [], ◌∷◌, ◌++◌, map, Memᴰ}
 use mathlib.Core.Logic.{⊎_elim}
@@ -17,7 +17,7 @@ use Rattle.rules.specs.View.{is_ended}
 use Rattle.rules.specs.Trial.{trial}
 use Rattle.rules.specs.Accept.{reading_of, accept}
 use Rattle.rules.specs.History.{Event, told, step, run, costs_in, before_cost, reading}
-use Rattle.rules.specs.Tally.{finishes, pieces, count_of, made}
+use Rattle.rules.specs.Tally.{finishes, pieces, count_of, made, probe_by, probes_in, direct_by, is_open, open_in}
 
 -- the readings that an event is
 abbrev pub read_by : Search → Event → List Vertex
@@ -68,7 +68,29 @@ unfolding pieces run count_of
 made_append x s [] q = omega arith
 made_append x s (e ∷ p) q = rw (made_cons x s e (p ++ q), made_cons x s e p, made_append x (step s e) p q) (omega arith)
 
+pub probes_in_append : (s : Search) (p q : List Event) → probes_in s (p ++ q) ≡ probes_in s p + probes_in (run s p) q
+unfolding probes_in run
+probes_in_append s [] q = omega arith
+probes_in_append s (e ∷ p) q = rw (probes_in_append (step s e) p q) (omega arith)
+
+pub open_in_append : (k : ℕ) (s : Search) (p q : List Event) → open_in k s (p ++ q) ≡ open_in (open_in k s p) (run s p) q
+unfolding open_in run
+open_in_append k s [] q = refl
+open_in_append k s (e ∷ p) q =
+    open_in_append (cond (is_open (finishes s e) (probe_by s e + direct_by s e) s.readings) (k + 1) 0) (step s e) p q
+
+pub readings_of_append : (s : Search) (p q : List Event) → readings_of s (p ++ q) ≡ readings_of s p ++ readings_of (run s p) q
+unfolding readings_of run
+readings_of_append s [] q = refl
+readings_of_append s (told c ∷ p) q = ap (λ (l : List Vertex). reading_of s c ∷ l) (readings_of_append (accept s c) p q)
+
 -- ---- the readings
+
+-- there is one for each cost
+pub length_readings_of : (s : Search) (h : List Event) → length (readings_of s h) ≡ length (costs_in h)
+unfolding readings_of costs_in
+length_readings_of s [] = refl
+length_readings_of s (told c ∷ h) = ap suc (length_readings_of (accept s c) h)
 
 -- their costs are those of the history
 pub costs_readings_of : (s : Search) (h : List Event) → map cost_of (readings_of s h) ≡ costs_in h
