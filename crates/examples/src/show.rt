@@ -3,8 +3,8 @@ use numerals::bits_of;
 use rules::{Asked, Cause, Phase, Refusal, Search, Side};
 use std::{fmt, io};
 
-// Coordinates, each printed by its bits after a space. `replay` prints words so: `numerals` promises what its functions answer, and what is
-// printed has no promise.
+// Coordinates, each printed by its bits after a space. `replay` prints words by itself: `numerals` promises what its functions answer, and what
+// is printed has no promise.
 #[derive(Clone, Copy)]
 struct Coordinates<'a>(&'a [f64]);
 
